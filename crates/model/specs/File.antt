@@ -1,0 +1,84 @@
+-- The file of a model: its records in order, cut into blocks of 42, numbered and checked.
+use Prim.Native.Nat.{ℕ, zero, suc, _+_, _-_, _*_, _/_, _%_}
+use mathlib.Core.List.{List, [], _∷_, _++_, map}
+use lib.ListN.{length, take, drop, replicate}
+use Rattle.sets.specs.Below.{table, tableFrom, sumBelow}
+use Rattle.sets.specs.Groups.{lined}
+use Rattle.model.specs.Check.{checkOf}
+use Rattle.model.specs.Valid.{subjectAt, stateAt, exitAt, rowAt, exitsInAll}
+use Rattle.model.specs.declared.Exit.{Exit}
+use Rattle.model.specs.declared.Model.{Model}
+use Rattle.model.specs.declared.Row.{Row}
+use Rattle.model.specs.declared.State.{State}
+use Rattle.model.specs.declared.Subject.{Subject}
+
+-- ---- records
+
+-- two bytes, low first
+abbrev pub twoBytes : ℕ → List ℕ
+twoBytes x = x % 256 ∷ x / 256 ∷ []
+
+abbrev pub headerRecord : Model → List ℕ
+headerRecord m = m .n ∷ twoBytes (m .start) ++ replicate 9 0
+
+abbrev pub subjectRecord : ℕ → Subject → List ℕ
+subjectRecord s sub = s ∷ sub .states ∷ sub .initial ∷ replicate 9 0
+
+abbrev pub stateRecord : ℕ → ℕ → State → List ℕ
+stateRecord s t st =
+    s ∷ t ∷ st .kind ∷ st .exits ∷ st .sender ∷ st .typ ∷ twoBytes (st .after) ++ st .timeout ∷ st .cancel ∷ twoBytes (st .receivers)
+
+abbrev pub exitRecord : ℕ → ℕ → ℕ → Exit → List ℕ
+exitRecord s t x e = s ∷ t ∷ x ∷ e .target ∷ e .sender ∷ e .typ ∷ replicate 6 0
+
+abbrev pub limitRecord : ℕ → Row → List ℕ
+limitRecord owner w = owner ∷ w .sender ∷ w .typ ∷ w .limit ∷ replicate 8 0
+
+-- the records of each kind, in order
+unfoldable pub headers : Model → List (List ℕ)
+headers m = headerRecord m ∷ table (λ s. subjectRecord s (subjectAt m s)) (m .n)
+
+unfoldable pub stateRecords : Model → List (List ℕ)
+stateRecords m = lined (λ s. subjectAt m s .states) (λ s t. stateRecord s t (stateAt m (s * 32 + t))) 16
+
+unfoldable pub exitRecords : Model → List (List ℕ)
+exitRecords m = lined (λ p. stateAt m p .exits) (λ p x. exitRecord (p / 32) (p % 32) x (exitAt (stateAt m p) x)) 512
+
+unfoldable pub limitRecords : Model → List (List ℕ)
+limitRecords m = lined (λ s. subjectAt m s .rows) (λ s k. limitRecord s (rowAt (subjectAt m s) k)) 16
+
+-- ---- blocks
+
+-- one run of bytes out of many
+unfoldable pub joined : List (List ℕ) → List ℕ
+joined [] = []
+joined (r ∷ rs) = r ++ joined rs
+
+-- bytes 0 to 507 of block b, of kind k, with the records rs: unused room is zero
+unfoldable pub bodyWith : ℕ → ℕ → List (List ℕ) → List ℕ
+bodyWith b k rs = twoBytes b ++ k ∷ length rs ∷ joined rs ++ replicate (504 - 12 * length rs) 0
+
+-- four bytes, low first
+abbrev pub fourBytes : ℕ → List ℕ
+fourBytes x = x % 256 ∷ x / 256 % 256 ∷ x / 65536 % 256 ∷ x / 16777216 ∷ []
+
+unfoldable pub blockWith : ℕ → ℕ → List (List ℕ) → List ℕ
+blockWith b k rs = bodyWith b k rs ++ fourBytes (checkOf (bodyWith b k rs))
+
+-- how many blocks so many records fill
+abbrev pub blocksFor : ℕ → ℕ
+blocksFor count = (count + 41) / 42
+
+-- records of kind k, in blocks from number `first` on: 42 to a block
+unfoldable pub blocksOf : ℕ → ℕ → List (List ℕ) → List (List ℕ)
+blocksOf first k rs = table (λ q. blockWith (first + q) k (take 42 (drop (q * 42) rs))) (blocksFor (length rs))
+
+unfoldable pub fileWith : List (List ℕ) → List (List ℕ) → List (List ℕ) → List (List ℕ) → List ℕ
+fileWith hs ss es ls =
+    joined (blocksOf 0 1 hs)
+    ++ joined (blocksOf (blocksFor (length hs)) 2 ss)
+    ++ joined (blocksOf (blocksFor (length hs) + blocksFor (length ss)) 3 es)
+    ++ joined (blocksOf (blocksFor (length hs) + blocksFor (length ss) + blocksFor (length es)) 4 ls)
+
+unfoldable pub fileOf : Model → List ℕ
+fileOf m = fileWith (headers m) (stateRecords m) (exitRecords m) (limitRecords m)

@@ -1,0 +1,63 @@
+-- Loading: the first refusal that holds, stage by stage over the whole file; else the model.
+use Prim.Native.Nat.{ℕ}
+use mathlib.Core.Bool.{Bool, _&&_, cond}
+use mathlib.Core.List.{List}
+use lib.ListN.{replicate}
+use Rattle.sets.specs.Below.{firstNot}
+use Rattle.sets.specs.declared.Found.{Found}
+use Rattle.sets.specs.declared.Found.the-variants.{At, Nothing}
+use Rattle.model.specs.Blocks.{blocks}
+use Rattle.model.specs.Decoded.{modelOf, inPlace}
+use Rattle.model.specs.Records.{blankState, blankSubject}
+use Rattle.model.specs.Stages.{lengthRight, checkRight, blockRight, recordsRight}
+use Rattle.model.specs.Valid.{valid}
+use Rattle.model.specs.declared.Loaded.{Loaded}
+use Rattle.model.specs.declared.Model.{Model}
+use Rattle.model.specs.declared.Verdict.{Verdict}
+use Rattle.model.specs.declared.Verdict.the-variants.{Good, Length, Check, Block, Record, Across}
+
+-- no subjects
+unfoldable pub emptyModel : Model
+emptyModel = record { n = 0; start = 0; subjects = replicate 16 blankSubject; states = replicate 512 blankState }
+
+-- a file is refused: the empty model, and why
+abbrev pub refused : Verdict → Loaded
+refused why = record { model = emptyModel; verdict = why }
+
+-- the first block that fails a test refuses the file; where none does, what comes next decides
+abbrev pub unlessAt : Found → (ℕ → Verdict) → Loaded → Loaded
+unlessAt (At b) why next = refused (why b)
+unlessAt Nothing why next = next
+
+-- any rule across records
+abbrev pub acrossRight : List ℕ → Bool
+acrossRight file = inPlace file && valid (modelOf file)
+
+unfoldable pub loaded : List ℕ → Loaded
+loaded file =
+    cond (lengthRight file)
+    (unlessAt (firstNot (checkRight file) (blocks file)) Check
+    (unlessAt (firstNot (blockRight file) (blocks file)) Block
+    (unlessAt (firstNot (recordsRight file) (blocks file)) Record
+    (cond (acrossRight file) (record { model = modelOf file; verdict = Good }) (refused Across)))))
+    (refused Length)
+
+-- ---- this paper's numbers for each verdict
+
+-- the number of the refusal; 0 is none
+abbrev pub refusalOf : Verdict → ℕ
+refusalOf Good = 0
+refusalOf Length = 1
+refusalOf (Check b) = 2
+refusalOf (Block b) = 3
+refusalOf (Record b) = 4
+refusalOf Across = 5
+
+-- the block it names
+abbrev pub blockOf : Verdict → ℕ
+blockOf Good = 0
+blockOf Length = 0
+blockOf (Check b) = b
+blockOf (Block b) = b
+blockOf (Record b) = b
+blockOf Across = 0

@@ -1,0 +1,70 @@
+-- The rules for the fields of a state, an exit and a limit row: those that one record shows, and those that ask what exists.
+use Prim.Native.Nat.{ℕ, _+_, _*_}
+use mathlib.Core.Bool.{Bool, true, false, _&&_, _||_, not, cond}
+use lib.Dec.{ltb, leb, eqb}
+use Rattle.sets.specs.Tests.{within, same, noneFrom}
+use Rattle.model.specs.declared.Exit.{Exit}
+use Rattle.model.specs.declared.Row.{Row}
+use Rattle.model.specs.declared.Shape.{Shape}
+use Rattle.model.specs.declared.State.{State}
+
+-- 255 is 'any' as a sender or a type, 'none' as a target
+abbrev pub any : ℕ
+any = 255
+
+-- a message type: 0 to 31
+abbrev pub isType : ℕ → Bool
+isType t = ltb t 32
+
+abbrev pub typeOrAny : ℕ → Bool
+typeOrAny t = isType t || eqb t any
+
+-- ---- what one record shows
+
+-- by kind: the least and the most exits; uses the state's sender and type; may have a timeout or cancel target; has receivers.
+-- Of any other kind no number of exits is right.
+unfoldable pub shapeOf : ℕ → Shape
+shapeOf kind =
+    cond (eqb kind 1) (record { least = 1; most = 8; filters = false; waits = true; sends = false })
+    (cond (eqb kind 2) (record { least = 1; most = 1; filters = false; waits = true; sends = true })
+    (cond (eqb kind 3) (record { least = 1; most = 8; filters = false; waits = true; sends = false })
+    (cond (within 4 kind 5) (record { least = 1; most = 1; filters = true; waits = false; sends = false })
+    (cond (eqb kind 6) (record { least = 2; most = 2; filters = true; waits = false; sends = false })
+    (cond (eqb kind 7) (record { least = 0; most = 0; filters = false; waits = false; sends = false })
+    (record { least = 1; most = 0; filters = false; waits = false; sends = false }))))))
+
+-- the fields of a state, by the shape of its kind
+unfoldable pub stateFits : State → Bool
+stateFits st =
+    within (shapeOf (st .kind) .least) (st .exits) (shapeOf (st .kind) .most)
+    && cond (shapeOf (st .kind) .filters) (typeOrAny (st .typ)) (eqb (st .sender) any && eqb (st .typ) any)
+    && (shapeOf (st .kind) .waits || (eqb (st .timeout) any && eqb (st .cancel) any))
+    && same (eqb (st .after) 0) (eqb (st .timeout) any)
+    && same (eqb (st .receivers) 0) (not (shapeOf (st .kind) .sends))
+
+-- the sender and type of an exit, by the kind of its state: a receive names both, a send its type, others neither
+unfoldable pub exitFits : ℕ → Exit → Bool
+exitFits kind e =
+    cond (eqb kind 3) (not (eqb (e .sender) any) && isType (e .typ))
+    (eqb (e .sender) any && cond (eqb kind 2) (isType (e .typ)) (eqb (e .typ) any))
+
+-- a limit row: limit 1 to 16, a type or any
+unfoldable pub rowFits : Row → Bool
+rowFits w = within 1 (w .limit) 16 && typeOrAny (w .typ)
+
+-- ---- what has to exist
+
+-- x is below n, or 255
+abbrev pub thereOrAny : ℕ → ℕ → Bool
+thereOrAny n x = ltb x n || eqb x any
+
+-- of n subjects, of which the state's own has `states` states: targets, sender and receivers exist
+unfoldable pub stateReaches : ℕ → ℕ → State → Bool
+stateReaches n states st =
+    thereOrAny states (st .timeout) && thereOrAny states (st .cancel) && thereOrAny n (st .sender) && noneFrom n (st .receivers)
+
+unfoldable pub exitReaches : ℕ → ℕ → Exit → Bool
+exitReaches n states e = ltb (e .target) states && thereOrAny n (e .sender)
+
+unfoldable pub rowReaches : ℕ → Row → Bool
+rowReaches n w = thereOrAny n (w .sender)

@@ -1,0 +1,90 @@
+-- What is right of a file's length, of a block and of a record: refusals 1 to 4.
+use Prim.Native.Nat.{ℕ, zero, suc, _+_, _-_, _*_, _%_}
+use mathlib.Core.Bool.{Bool, true, _&&_, _||_, not, cond}
+use mathlib.Core.List.{List, []}
+use lib.Dec.{ltb, leb, eqb}
+use lib.ListN.{length, getD, drop}
+use Rattle.sets.specs.Below.{allBelow}
+use Rattle.sets.specs.Tests.{within, allZero}
+use Rattle.model.specs.Check.{checkOf}
+use Rattle.model.specs.Blocks.{blocks, numberOf, kindOf, usedOf, bodyOf, checkIn, recordOf, recordNo, countOf}
+use Rattle.model.specs.Records.{stateKey, orderOf, stateOf, exitOf, rowOf, blankExits}
+use Rattle.model.specs.Rules.{stateFits, exitFits, rowFits}
+
+-- 1: the length is 1 to 43 whole blocks
+unfoldable pub lengthRight : List ℕ → Bool
+lengthRight file = eqb (length file % 512) 0 && within 1 (blocks file) 43
+
+-- 2: the check of block b is that of its bytes
+unfoldable pub checkRight : List ℕ → ℕ → Bool
+checkRight file b = eqb (checkIn file b) (checkOf (bodyOf file b))
+
+-- ---- 3: block number, kind order, record count, fullness, unused room
+
+-- block 0, and only it, is the header; later kinds are 2 to 4 and never fall
+unfoldable pub kindRight : List ℕ → ℕ → Bool
+kindRight file b = cond (eqb b 0) (eqb (kindOf file b) 1) (within 2 (kindOf file b) 4 && leb (kindOf file (b - 1)) (kindOf file b))
+
+-- the next block is of the same kind
+abbrev pub goesOn : List ℕ → ℕ → Bool
+goesOn file b = ltb (b + 1) (blocks file) && eqb (kindOf file (b + 1)) (kindOf file b)
+
+-- every block but the last of its kind is full
+unfoldable pub fullRight : List ℕ → ℕ → Bool
+fullRight file b = eqb (usedOf file b) 42 || not (goesOn file b)
+
+unfoldable pub blockRight : List ℕ → ℕ → Bool
+blockRight file b =
+    eqb (numberOf file b) b
+    && kindRight file b
+    && within 1 (usedOf file b) 42
+    && fullRight file b
+    && allZero (drop (4 + 12 * usedOf file b) (bodyOf file b))
+
+-- ---- 4: the record alone, after the one before it, and with the exit's own state record
+
+-- the record before record i of block b, of the same kind; nothing before the first
+unfoldable pub recordBefore : List ℕ → ℕ → ℕ → List ℕ
+recordBefore file b i =
+    cond (ltb 0 i) (recordOf file b (i - 1))
+    (cond (eqb (kindOf file (b - 1)) (kindOf file b)) (recordOf file (b - 1) 41) [])
+
+-- strictly ascending
+abbrev pub ascends : List ℕ → ℕ → ℕ → Bool
+ascends file b i = ltb (orderOf (kindOf file b) (recordBefore file b i)) (orderOf (kindOf file b) (recordOf file b i))
+
+-- the kind that the first n state records give to the subject and state of the key; 0 where none names it
+unfoldable pub kindAmong : List ℕ → ℕ → ℕ → ℕ
+kindAmong file key zero = 0
+kindAmong file key (suc n) = cond (eqb (stateKey (recordNo file 2 n)) key) (getD (recordNo file 2 n) 2 0) (kindAmong file key n)
+
+-- the kind of the exit's own state; 0 where its record is missing
+abbrev pub ownKind : List ℕ → ℕ → ℕ
+ownKind file key = kindAmong file key (countOf file 2)
+
+-- header, first: 1 to 16 subjects, n + 1 records; then one for each subject in order, with 1 to 32 states
+unfoldable pub headerRight : ℕ → ℕ → List ℕ → Bool
+headerRight used i r =
+    cond (eqb i 0) (within 1 (getD r 0 0) 16 && eqb used (getD r 0 0 + 1)) (eqb (getD r 0 0 + 1) i && within 1 (getD r 1 0) 32)
+    && allZero (drop 3 r)
+
+-- an exit of a state of the given kind; where that state is missing, refusal 5 judges it
+unfoldable pub exitRight : ℕ → List ℕ → Bool
+exitRight kind r = eqb kind 0 || (exitFits kind (exitOf r) && allZero (drop 6 r))
+
+unfoldable pub limitRight : List ℕ → Bool
+limitRight r = rowFits (rowOf r) && allZero (drop 4 r)
+
+-- the record's own fields
+unfoldable pub fieldsRight : List ℕ → ℕ → List ℕ → Bool
+fieldsRight file k r =
+    cond (eqb k 2) (stateFits (stateOf r blankExits)) (cond (eqb k 3) (exitRight (ownKind file (stateKey r)) r) (limitRight r))
+
+unfoldable pub recordRight : List ℕ → ℕ → ℕ → Bool
+recordRight file b i =
+    cond (eqb (kindOf file b) 1) (headerRight (usedOf file b) i (recordOf file b i))
+    (ascends file b i && fieldsRight file (kindOf file b) (recordOf file b i))
+
+-- every record of block b is right
+abbrev pub recordsRight : List ℕ → ℕ → Bool
+recordsRight file b = allBelow (recordRight file b) (usedOf file b)

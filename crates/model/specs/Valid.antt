@@ -1,0 +1,110 @@
+-- A valid model: n subjects, each with its states, exits and limit rows, every rule kept, all other room zero.
+use Prim.Native.Nat.{ℕ, _+_, _-_, _*_, _/_, _%_}
+use mathlib.Core.Bool.{Bool, true, _&&_, _||_, not, cond}
+use mathlib.Core.List.{List, []}
+use lib.Dec.{ltb, leb, eqb}
+use lib.ListN.{getD}
+use Rattle.sets.specs.Below.{allBelow, sumBelow}
+use Rattle.sets.specs.Tests.{within, noneFrom}
+use Rattle.model.specs.Records.{blankExit, blankRow}
+use Rattle.model.specs.Rules.{stateFits, exitFits, rowFits, stateReaches, exitReaches, rowReaches}
+use Rattle.model.specs.declared.Exit.{Exit}
+use Rattle.model.specs.declared.Model.{Model}
+use Rattle.model.specs.declared.Row.{Row}
+use Rattle.model.specs.declared.State.{State}
+use Rattle.model.specs.declared.Subject.{Subject}
+
+-- ---- looking things up
+
+-- past the end of the arrays: nothing
+abbrev pub noState : State
+noState = record { kind = 0; exits = 0; sender = 0; typ = 0; after = 0; timeout = 0; cancel = 0; receivers = 0; exit = [] }
+
+abbrev pub noSubject : Subject
+noSubject = record { states = 0; initial = 0; rows = 0; row = [] }
+
+abbrev pub subjectAt : Model → ℕ → Subject
+subjectAt m s = getD (m .subjects) s noSubject
+
+-- the state at place p: subject p / 32, state p % 32
+abbrev pub stateAt : Model → ℕ → State
+stateAt m p = getD (m .states) p noState
+
+abbrev pub exitAt : State → ℕ → Exit
+exitAt st x = getD (st .exit) x blankExit
+
+abbrev pub rowAt : Subject → ℕ → Row
+rowAt sub k = getD (sub .row) k blankRow
+
+-- ---- each thing by itself
+
+abbrev pub isBlankExit : Exit → Bool
+isBlankExit e = eqb (e .target) 0 && eqb (e .sender) 0 && eqb (e .typ) 0
+
+abbrev pub isBlankRow : Row → Bool
+isBlankRow w = eqb (w .sender) 0 && eqb (w .typ) 0 && eqb (w .limit) 0
+
+-- nothing but zeros, the exits aside
+unfoldable pub isBlankState : State → Bool
+isBlankState st =
+    eqb (st .kind) 0 && eqb (st .exits) 0 && eqb (st .sender) 0 && eqb (st .typ) 0
+    && eqb (st .after) 0 && eqb (st .timeout) 0 && eqb (st .cancel) 0 && eqb (st .receivers) 0
+
+-- exit x of a state: right if the state has it, else blank
+unfoldable pub exitValid : ℕ → ℕ → State → ℕ → Bool
+exitValid n states st x =
+    cond (ltb x (st .exits)) (exitFits (st .kind) (exitAt st x) && exitReaches n states (exitAt st x)) (isBlankExit (exitAt st x))
+
+-- the state with number t of a subject with `states` states: right if the subject has it, else blank
+unfoldable pub stateValid : ℕ → ℕ → ℕ → State → Bool
+stateValid n states t st =
+    cond (ltb t states) (stateFits st && stateReaches n states st) (isBlankState st) && allBelow (exitValid n states st) 8
+
+-- sender and type of a row as one number: the rows of an owner ascend by it
+abbrev pub rowKey : Row → ℕ
+rowKey w = w .sender * 256 + w .typ
+
+-- row k comes after the row before it
+abbrev pub rowAscends : Subject → ℕ → Bool
+rowAscends sub k = eqb k 0 || ltb (rowKey (rowAt sub (k - 1))) (rowKey (rowAt sub k))
+
+-- row k of a subject: right if the subject has it, else blank
+unfoldable pub rowValid : ℕ → Subject → ℕ → Bool
+rowValid n sub k =
+    cond (ltb k (sub .rows)) (rowFits (rowAt sub k) && rowReaches n (rowAt sub k) && rowAscends sub k) (isBlankRow (rowAt sub k))
+
+-- a subject with 1 to 32 states, whose initial state has the given kind and is no end, and with up to 8 rows
+unfoldable pub subjectFits : Subject → ℕ → Bool
+subjectFits sub kind =
+    within 1 (sub .states) 32 && ltb (sub .initial) (sub .states) && not (eqb kind 7) && leb (sub .rows) 8
+
+abbrev pub isBlankSubject : Subject → Bool
+isBlankSubject sub = eqb (sub .states) 0 && eqb (sub .initial) 0 && eqb (sub .rows) 0
+
+-- subject s of n: right if there is one, else blank
+unfoldable pub subjectValid : ℕ → ℕ → Subject → ℕ → Bool
+subjectValid n s sub kind = cond (ltb s n) (subjectFits sub kind) (isBlankSubject sub) && allBelow (rowValid n sub) 8
+
+-- ---- all of it
+
+abbrev pub subjectRight : Model → ℕ → Bool
+subjectRight m s = subjectValid (m .n) s (subjectAt m s) (stateAt m (s * 32 + subjectAt m s .initial) .kind)
+
+abbrev pub stateRight : Model → ℕ → Bool
+stateRight m p = stateValid (m .n) (subjectAt m (p / 32) .states) (p % 32) (stateAt m p)
+
+-- the start mask names a subject, and none from n up
+abbrev pub startRight : Model → Bool
+startRight m = not (eqb (m .start) 0) && noneFrom (m .n) (m .start)
+
+-- how many exits there are in all
+abbrev pub exitsInAll : Model → ℕ
+exitsInAll m = sumBelow (λ p. stateAt m p .exits) 512
+
+unfoldable pub valid : Model → Bool
+valid m =
+    within 1 (m .n) 16
+    && startRight m
+    && allBelow (subjectRight m) 16
+    && allBelow (stateRight m) 512
+    && leb (exitsInAll m) 1024

@@ -1,0 +1,70 @@
+// The file reader: model files, the model, its validity.
+ghost use mathlib.Core.Path.{_≡_};
+
+// An exit of a state: where it leads; of a receive the sender and the type, of a send the type.
+pub struct Exit {
+    pub target: u8,
+    pub sender: u8,
+    pub typ: u8,
+}
+
+// A limit row of a subject: how many entries from a sender and of a type its pool may hold.
+pub struct Row {
+    pub sender: u8,
+    pub typ: u8,
+    pub limit: u8,
+}
+
+// A state: its kind and fields, and its exits.
+pub struct State {
+    pub kind: u8,
+    pub exits: u8,
+    pub sender: u8,
+    pub typ: u8,
+    pub after: u16,
+    pub timeout: u8,
+    pub cancel: u8,
+    pub receivers: u16,
+    pub exit: [Exit; 8],
+}
+
+// A subject: how many states, the initial one, and its limit rows.
+pub struct Subject {
+    pub states: u8,
+    pub initial: u8,
+    pub rows: u8,
+    pub row: [Row; 8],
+}
+
+// A model: state t of subject s is at place s * 32 + t. Unused room is zero.
+pub struct Model {
+    pub n: u8,
+    pub start: u16,
+    pub subjects: [Subject; 16],
+    pub states: [State; 512],
+}
+
+// What the kind of a state allows.
+pub struct Shape {
+    pub least: u8,
+    pub most: u8,
+    pub filters: bool,
+    pub waits: bool,
+    pub sends: bool,
+}
+
+// Whether a file loads, and why not.
+pub enum Verdict {
+    Good,
+    Length,
+    Check(usize),
+    Block(usize),
+    Record(usize),
+    Across,
+}
+
+// The model beside the verdict: the empty one where the file is refused.
+pub struct Loaded {
+    pub model: Model,
+    pub verdict: Verdict,
+}

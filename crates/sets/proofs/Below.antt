@@ -1,0 +1,237 @@
+-- Laws of tests, searches, sums and tables over the numbers below n: a loop's start, its turn and its end, and what the result tells.
+use mathlib.Core.Path.{_≡_, refl, sym, ap, subst, _∙_}
+use mathlib.Core.Logic.{_⊎_, inl, inr, ⊎-elim}
+use mathlib.Core.Bool.{Bool, true, false, _&&_, cond}
+use mathlib.Core.List.{List, [], _∷_, _++_, append-assoc, append-nil}
+use Prim.Native.Nat.{ℕ, zero, suc, _+_, _-_, _*_, _≤_, _<_}
+use native.Mathlib.Nat.{eq-or-lt-of-le, le-antisymm, le-of-suc-le-suc, not-suc-le-zero, sub-self, sub-zero}
+use native.Mathlib.Numerals.{add-one}
+use native.Mathlib.Omega.{arith}
+use lib.ListN.{length, getD, set, replicate, length-append, length-replicate, getD-replicate}
+use lib.Seq.{ext-getD, set-at, getD-at}
+use Rattle.sets.specs.Below.{allBelow, orElse, firstNot, sumBelow, countBelow, tableFrom, table, filled}
+use Rattle.sets.specs.declared.Found.{Found}
+use Rattle.sets.specs.declared.Found.the-variants.{At, Nothing}
+use Rattle.sets.proofs.Tests.{not-both, and-true, and-both, and-false, is-false}
+
+-- i < n + 1: it is n, or below
+pub last-or : (i n : ℕ) → i < suc n → (i ≡ n) ⊎ (i < n)
+last-or i n h = eq-or-lt-of-le (le-of-suc-le-suc h)
+
+-- ---- a test of every number below n
+
+module _ (p : ℕ → Bool) where
+  pub all-start : allBelow p 0 ≡ true
+  unfolding allBelow
+  all-start = refl
+
+  pub all-more : (i : ℕ) → allBelow p i ≡ true → p i ≡ true → allBelow p (i + 1) ≡ true
+  unfolding allBelow
+  all-more i h e = rw (add-one, h, e)
+
+  pub all-stop : (i n : ℕ) → i < n → p i ≡ false → allBelow p n ≡ false
+  unfolding allBelow
+  all-stop i zero l e = absurd (not-suc-le-zero l)
+  all-stop i (suc n) l e =
+      ⊎-elim (λ (m : i ≡ n). and-false (allBelow p n) (p n) (rw (← m) e)) (λ (m : i < n). rw (all-stop i n m e)) (last-or i n l)
+
+  pub all-end : (i n : ℕ) → i ≤ n → n ≤ i → allBelow p i ≡ true → allBelow p n ≡ true
+  all-end i n l g h = subst (λ (k : ℕ). allBelow p k ≡ true) (le-antisymm l g) h
+
+  pub all-each : (n : ℕ) → allBelow p n ≡ true → (i : ℕ) → i < n → p i ≡ true
+  unfolding allBelow
+  all-each zero h i l = absurd (not-suc-le-zero l)
+  all-each (suc n) h i l =
+      let b = and-both (allBelow p n) (p n) h in
+      ⊎-elim (λ (m : i ≡ n). rw m (b .right)) (λ (m : i < n). all-each n (b .left) i m) (last-or i n l)
+
+  pub all-by : (n : ℕ) → ((i : ℕ) → i < n → p i ≡ true) → allBelow p n ≡ true
+  unfolding allBelow
+  all-by zero f = refl
+  all-by (suc n) f = and-true (all-by n (λ i l. f i (omega arith))) (f n (omega arith))
+
+-- the same test, number by number
+pub all-same : (p q : ℕ → Bool) (n : ℕ) → ((i : ℕ) → i < n → p i ≡ q i) → allBelow p n ≡ allBelow q n
+unfolding allBelow
+all-same p q zero f = refl
+all-same p q (suc n) f = rw (all-same p q n (λ i l. f i (omega arith)), f n (omega arith))
+
+-- ---- the first number at which a test fails
+
+-- b is the first number below n at which p fails
+pub record FirstNot (p : ℕ → Bool) (n b : ℕ) : Type 0 where
+  pub below : b < n
+  pub fails : p b ≡ false
+  pub before : (i : ℕ) → i < b → p i ≡ true
+
+no-at : {A : Type 0} {b : ℕ} → Nothing ≡ At b → A
+no-at h = let z : _≡_ {A = ℕ} 0 1 = cc in absurd (omega arith)
+
+at-is : {a b : ℕ} → At a ≡ At b → a ≡ b
+at-is h = cc
+
+module _ (p : ℕ → Bool) where
+  pub first-start : firstNot p 0 ≡ Nothing
+  unfolding firstNot
+  first-start = refl
+
+  pub first-more : (i : ℕ) → firstNot p i ≡ Nothing → p i ≡ true → firstNot p (i + 1) ≡ Nothing
+  unfolding firstNot
+  first-more i h e = rw (add-one, h, e)
+
+  pub first-found : (i n : ℕ) → firstNot p i ≡ Nothing → p i ≡ false → i < n → firstNot p n ≡ At i
+  unfolding firstNot
+  first-found i zero h e l = absurd (not-suc-le-zero l)
+  first-found i (suc n) h e l =
+      ⊎-elim (λ (m : i ≡ n). rw (← m, h, e)) (λ (m : i < n). rw (first-found i n h e m)) (last-or i n l)
+
+  pub first-end : (i n : ℕ) → i ≤ n → n ≤ i → firstNot p i ≡ Nothing → firstNot p n ≡ Nothing
+  first-end i n l g h = subst (λ (k : ℕ). firstNot p k ≡ Nothing) (le-antisymm l g) h
+
+  pub first-by : (n : ℕ) → ((i : ℕ) → i < n → p i ≡ true) → firstNot p n ≡ Nothing
+  unfolding firstNot
+  first-by zero f = refl
+  first-by (suc n) f = rw (first-by n (λ i l. f i (omega arith)), f n (omega arith))
+
+  -- what the search tells: nothing, and every number passes; or b, the first that fails
+  pub first-each : (n : ℕ) → firstNot p n ≡ Nothing → (i : ℕ) → i < n → p i ≡ true
+  unfolding firstNot
+  first-each zero h i l = absurd (not-suc-le-zero l)
+  first-each (suc n) h i l = go (λ e m. first-each n e i m) (firstNot p n) refl (p n) refl
+    where
+      go : (firstNot p n ≡ Nothing → i < n → p i ≡ true) → (x : Found) → firstNot p n ≡ x → (b : Bool) → p n ≡ b → p i ≡ true
+      go ih (At k) e b f = no-at (sym (rw e at h))
+      go ih Nothing e true f = ⊎-elim (λ (m : i ≡ n). rw m f) (λ (m : i < n). ih e m) (last-or i n l)
+      go ih Nothing e false f = no-at (sym (rw (e, f) at h))
+
+  pub first-is : (n b : ℕ) → firstNot p n ≡ At b → FirstNot p n b
+  unfolding firstNot
+  first-is zero b h = no-at h
+  first-is (suc n) b h = go (first-is n b) (firstNot p n) refl (p n) refl
+    where
+      go : (firstNot p n ≡ At b → FirstNot p n b) → (x : Found) → firstNot p n ≡ x → (c : Bool) → p n ≡ c → FirstNot p (suc n) b
+      go ih (At k) e c f =
+          let g = ih (e ∙ rw e at h) in
+          record { below = omega (arith, g .below); fails = g .fails; before = g .before }
+      go ih Nothing e true f = no-at (rw (e, f) at h)
+      go ih Nothing e false f =
+          let m : n ≡ b = at-is (rw (e, f) at h) in
+          record { below = omega arith; fails = rw (← m) f; before = λ i l. first-each n e i (omega arith) }
+
+-- ---- sums
+
+module _ (f : ℕ → ℕ) where
+  pub sum-start : sumBelow f 0 ≡ 0
+  unfolding sumBelow
+  sum-start = refl
+
+  pub sum-more : (i : ℕ) → sumBelow f (i + 1) ≡ sumBelow f i + f i
+  unfolding sumBelow
+  sum-more i = rw add-one
+
+  -- each at most k: the sum at most k for each
+  pub sum-bound : (k n : ℕ) → ((i : ℕ) → i < n → f i ≤ k) → sumBelow f n ≤ k * n
+  unfolding sumBelow
+  sum-bound k zero h = omega arith
+  sum-bound k (suc n) h = omega (arith, sum-bound k n (λ i l. h i (omega arith)), h n (omega arith))
+
+  -- a sum grows
+  pub sum-grows : (m n : ℕ) → m ≤ n → sumBelow f m ≤ sumBelow f n
+  unfolding sumBelow
+  sum-grows m zero l = let e : m ≡ 0 = omega arith in rw e (omega arith)
+  sum-grows m (suc n) l =
+      ⊎-elim (λ (e : m ≡ suc n). rw e (omega arith)) (λ (k : m < suc n). omega (arith, sum-grows m n (omega arith))) (eq-or-lt-of-le l)
+
+  -- one of the numbers is in the sum
+  pub sum-has : (i n : ℕ) → i < n → sumBelow f i + f i ≤ sumBelow f n
+  sum-has i n l = omega (arith, sum-more i, sum-grows (i + 1) n (omega arith))
+
+pub sum-same : (f g : ℕ → ℕ) (n : ℕ) → ((i : ℕ) → i < n → f i ≡ g i) → sumBelow f n ≡ sumBelow g n
+unfolding sumBelow
+sum-same f g zero h = refl
+sum-same f g (suc n) h = rw (sum-same f g n (λ i l. h i (omega arith)), h n (omega arith))
+
+-- ---- counts
+
+module _ (p : ℕ → Bool) where
+  pub count-start : countBelow p 0 ≡ 0
+  unfolding countBelow
+  count-start = sum-start _
+
+  pub count-hit : (i : ℕ) → p i ≡ true → countBelow p (i + 1) ≡ countBelow p i + 1
+  unfolding countBelow
+  count-hit i e = sum-more _ i ∙ rw e
+
+  pub count-miss : (i : ℕ) → p i ≡ false → countBelow p (i + 1) ≡ countBelow p i
+  unfolding countBelow
+  count-miss i e = sum-more _ i ∙ rw e (omega arith)
+
+  pub count-bound : (n : ℕ) → countBelow p n ≤ n
+  unfolding countBelow
+  count-bound n = omega (arith, sum-bound (λ i. cond (p i) 1 0) 1 n (λ i l. one (p i)))
+    where
+      one : (b : Bool) → cond b 1 0 ≤ 1
+      one true = omega arith
+      one false = omega arith
+
+-- ---- tables
+
+module _ {A : Type 0} where
+  pub length-from : (f : ℕ → A) (i n : ℕ) → length (tableFrom f i n) ≡ n
+  unfolding tableFrom
+  length-from f i zero = refl
+  length-from f i (suc n) = ap suc (length-from f (suc i) n)
+
+  from-at : (f : ℕ → A) (i n k : ℕ) (d : A) → k < n → getD (tableFrom f i n) k d ≡ f (i + k)
+  unfolding tableFrom
+  from-at f i zero k d l = absurd (not-suc-le-zero l)
+  from-at f i (suc n) zero d l = ap f (omega arith)
+  from-at f i (suc n) (suc k) d l = from-at f (suc i) n k d (le-of-suc-le-suc l) ∙ ap f (omega arith)
+
+  pub length-table : (f : ℕ → A) (n : ℕ) → length (table f n) ≡ n
+  length-table f n = length-from f 0 n
+
+  pub table-at : (f : ℕ → A) (n k : ℕ) (d : A) → k < n → getD (table f n) k d ≡ f k
+  table-at f n k d l = from-at f 0 n k d l ∙ ap f (omega arith)
+
+  from-same : (f g : ℕ → A) (i n : ℕ) → ((k : ℕ) → i ≤ k → k < i + n → f k ≡ g k) → tableFrom f i n ≡ tableFrom g i n
+  unfolding tableFrom
+  from-same f g i zero h = refl
+  from-same f g i (suc n) h = rw (h i (omega arith) (omega arith), from-same f g (suc i) n (λ k a b. h k (omega arith) (omega arith)))
+
+  -- two tables that agree are one
+  pub table-same : (f g : ℕ → A) (n : ℕ) → ((i : ℕ) → i < n → f i ≡ g i) → table f n ≡ table g n
+  table-same f g n h = from-same f g 0 n (λ k a b. h k (omega arith))
+
+  -- a list is the table of its own elements
+  pub table-of : (f : ℕ → A) (n : ℕ) (d : A) (l : List A) → length l ≡ n → ((i : ℕ) → i < n → f i ≡ getD l i d) → table f n ≡ l
+  table-of f n d l e h =
+      ext-getD d _ _ (length-table f n ∙ sym e) (λ i k. table-at f n i d (omega (arith, length-table f n)) ∙ h i (omega (arith, length-table f n)))
+
+  from-more : (f : ℕ → A) (i n : ℕ) → tableFrom f i (suc n) ≡ tableFrom f i n ++ (f (i + n) ∷ [])
+  unfolding tableFrom
+  from-more f i zero = ap (λ (k : ℕ). f k ∷ []) (omega arith)
+  from-more f i (suc n) = rw (from-more f (suc i) n) (ap (λ (k : ℕ). f i ∷ tableFrom f (suc i) n ++ (f k ∷ [])) (omega arith))
+
+  pub table-more : (f : ℕ → A) (i : ℕ) → table f (i + 1) ≡ table f i ++ (f i ∷ [])
+  table-more f i = rw add-one (from-more f 0 i ∙ ap (λ (k : ℕ). table f i ++ (f k ∷ [])) (omega arith))
+
+  -- ---- a loop that fills n places from the first on: `filled f z n i` has f at those below i, z at the others
+
+  pub fill-start : (f : ℕ → A) (z : A) (n : ℕ) → replicate n z ≡ filled f z n 0
+  unfolding filled tableFrom
+  fill-start f z n = rw sub-zero
+
+  pub length-filled : (f : ℕ → A) (z : A) (n i : ℕ) → i ≤ n → length (filled f z n i) ≡ n
+  unfolding filled
+  length-filled f z n i l = omega (arith, length-append (table f i) (replicate (n - i) z), length-table f i, length-replicate (n - i) z)
+
+  pub fill-turn : (f : ℕ → A) (z : A) (n i : ℕ) (x : A) → i < n → x ≡ f i → set (filled f z n i) i x ≡ filled f z n (i + 1)
+  unfolding filled
+  fill-turn f z n i x l e =
+      let k : n - i ≡ suc (n - (i + 1)) = omega arith in
+      rw (k, set-at (table f i) z _ x i (length-table f i), table-more f i, append-assoc, e)
+
+  pub fill-end : (f : ℕ → A) (z : A) (n i : ℕ) → i ≤ n → n ≤ i → filled f z n i ≡ table f n
+  unfolding filled
+  fill-end f z n i l g = let e : i ≡ n = omega arith in rw (e, sub-self, append-nil)

@@ -1,0 +1,5 @@
+pub mod Arrays
+pub mod FoldLaws
+pub mod BlockLaws
+pub mod StageLaws
+pub mod DecodedLaws

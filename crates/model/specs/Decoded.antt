@@ -5,9 +5,9 @@ use mathlib.Core.List.{List}
 use lib.Dec.{ltb, leb, eqb}
 use lib.ListN.{getD}
 use Rattle.sets.specs.Below.{allBelow, sumBelow, countBelow, table}
-use Rattle.sets.specs.Groups.{placeIn, laid}
+use Rattle.sets.specs.Groups.{placeIn, inPlaces}
 use Rattle.sets.specs.Tests.{wordAt}
-use Rattle.model.specs.Blocks.{recordOf, recordNo, countOf}
+use Rattle.model.specs.Blocks.{firstBlock, recordOf, recordFrom, recordNo, countOf}
 use Rattle.model.specs.Records.{blankExit, blankRow, blankState, blankSubject, stateOf, exitOf, rowOf, stateKey, fullKey}
 use Rattle.model.specs.declared.Exit.{Exit}
 use Rattle.model.specs.declared.Model.{Model}
@@ -29,44 +29,58 @@ unfoldable pub limitsIn : List ℕ → ℕ → ℕ
 limitsIn file s = countBelow (λ j. eqb (getD (recordNo file 4 j) 0 0) s) (countOf file 4)
 
 -- how many of them the model has room for
-abbrev pub rowsIn : List ℕ → ℕ → ℕ
+unfoldable pub rowsIn : List ℕ → ℕ → ℕ
 rowsIn file s = min (limitsIn file s) 8
 
--- row k of subject s
-unfoldable pub rowIn : List ℕ → ℕ → ℕ → Row
-rowIn file s k = laid (rowsIn file) (λ j. rowOf (recordNo file 4 j)) blankRow s k
+-- so many rows, from the record with number `place` on, counted from block `first`
+unfoldable pub rowsFrom : List ℕ → ℕ → ℕ → ℕ → List Row
+rowsFrom file first place rows = inPlaces 8 blankRow rows (λ k. rowOf (recordFrom file first (place + k)))
 
--- subject s: header record s + 1 has its states and its initial state
+-- subject s: header record s + 1 has its states and its initial state; its rows come after those of the subjects before it
 unfoldable pub subjectIn : List ℕ → ℕ → Subject
 subjectIn file s =
     cond (ltb s (subjectsIn file))
-    (record { states = getD (recordOf file 0 (s + 1)) 1 0; initial = getD (recordOf file 0 (s + 1)) 2 0; rows = rowsIn file s; row = table (rowIn file s) 8 })
+    (record {
+      states = getD (recordOf file 0 (s + 1)) 1 0;
+      initial = getD (recordOf file 0 (s + 1)) 2 0;
+      rows = rowsIn file s;
+      row = rowsFrom file (firstBlock file 4) (sumBelow (rowsIn file) s) (rowsIn file s);
+    })
     blankSubject
 
 -- ---- states and their exits
 
 -- how many states subject s has
-abbrev pub statesIn : List ℕ → ℕ → ℕ
+unfoldable pub statesIn : List ℕ → ℕ → ℕ
 statesIn file s = subjectIn file s .states
 
--- the record of the state at place p, subject p / 32, state p % 32
-abbrev pub stateRecordAt : List ℕ → ℕ → List ℕ
-stateRecordAt file p = recordNo file 2 (placeIn (statesIn file) (p / 32) (p % 32))
-
--- the state at place p is one that its subject has
+-- the subject p / 32 has a state p % 32
 abbrev pub hasState : List ℕ → ℕ → Bool
 hasState file p = ltb (p % 32) (statesIn file (p / 32))
 
+-- its record, after those of the subjects before it
+abbrev pub stateRecordIn : List ℕ → ℕ → List ℕ
+stateRecordIn file p = recordNo file 2 (placeIn (statesIn file) (p / 32) (p % 32))
+
 -- how many exits the state at place p has
 unfoldable pub exitsIn : List ℕ → ℕ → ℕ
-exitsIn file p = cond (hasState file p) (getD (stateRecordAt file p) 3 0) 0
+exitsIn file p = cond (hasState file p) (getD (stateRecordIn file p) 3 0) 0
 
--- exit x of the state at place p
-unfoldable pub exitIn : List ℕ → ℕ → ℕ → Exit
-exitIn file p x = laid (exitsIn file) (λ j. exitOf (recordNo file 3 j)) blankExit p x
+-- so many exits, from the record with number `place` on, counted from block `first`
+unfoldable pub exitsFrom : List ℕ → ℕ → ℕ → ℕ → List Exit
+exitsFrom file first place exits = inPlaces 8 blankExit exits (λ x. exitOf (recordFrom file first (place + x)))
 
+-- the state of record j, with its exits from the record with number `place` on
+unfoldable pub stateFrom : List ℕ → ℕ → ℕ → ℕ → ℕ → State
+stateFrom file first j next place =
+    stateOf (recordFrom file first j) (exitsFrom file next place (getD (recordFrom file first j) 3 0))
+
+-- the state at place p; its exits come after those of the states before it
 unfoldable pub stateIn : List ℕ → ℕ → State
-stateIn file p = cond (hasState file p) (stateOf (stateRecordAt file p) (table (exitIn file p) 8)) blankState
+stateIn file p =
+    cond (hasState file p)
+    (stateFrom file (firstBlock file 2) (placeIn (statesIn file) (p / 32) (p % 32)) (firstBlock file 3) (sumBelow (exitsIn file) p))
+    blankState
 
 unfoldable pub modelOf : List ℕ → Model
 modelOf file =
@@ -76,22 +90,31 @@ modelOf file =
 
 -- the record of each state names it
 unfoldable pub stateNamed : List ℕ → ℕ → Bool
-stateNamed file p = cond (hasState file p) (eqb (stateKey (stateRecordAt file p)) (p / 32 * 256 + p % 32)) true
+stateNamed file p = cond (hasState file p) (eqb (stateKey (stateRecordIn file p)) (p % 32 + 256 * (p / 32))) true
 
--- the record of exit x of the state at place p names it
-unfoldable pub exitNamed : List ℕ → ℕ → ℕ → Bool
-exitNamed file p x =
-    cond (ltb x (exitsIn file p)) (eqb (fullKey (recordNo file 3 (placeIn (exitsIn file) p x))) ((p / 32 * 256 + p % 32) * 256 + x)) true
+-- so many exits, from the record with number `place` on, name the state with the key and 0, 1, ..
+unfoldable pub exitsNamed : List ℕ → ℕ → ℕ → ℕ → ℕ → Bool
+exitsNamed file first place exits key = allBelow (λ x. eqb (fullKey (recordFrom file first (place + x))) (x + 256 * key)) exits
+
+-- the records of the exits of the state at place p name them
+unfoldable pub exitsNamedIn : List ℕ → ℕ → Bool
+exitsNamedIn file p = exitsNamed file (firstBlock file 3) (sumBelow (exitsIn file) p) (exitsIn file p) (p % 32 + 256 * (p / 32))
 
 -- limit record j has an owner that exists
 unfoldable pub ownerThere : List ℕ → ℕ → Bool
 ownerThere file j = ltb (getD (recordNo file 4 j) 0 0) (subjectsIn file)
 
+-- the state records are those of the subjects' states, in order, and no more
+unfoldable pub statesInPlace : List ℕ → Bool
+statesInPlace file = allBelow (stateNamed file) 512 && eqb (countOf file 2) (sumBelow (statesIn file) 16)
+
+-- the exit records are those of the states' exits, in order, and no more
+unfoldable pub exitsInPlace : List ℕ → Bool
+exitsInPlace file = allBelow (exitsNamedIn file) 512 && eqb (countOf file 3) (sumBelow (exitsIn file) 512)
+
+-- every limit record has an owner, and no owner more than 8
+unfoldable pub limitsInPlace : List ℕ → Bool
+limitsInPlace file = allBelow (ownerThere file) (countOf file 4) && allBelow (λ s. leb (limitsIn file s) 8) 16
+
 unfoldable pub inPlace : List ℕ → Bool
-inPlace file =
-    eqb (countOf file 2) (sumBelow (statesIn file) 16)
-    && allBelow (stateNamed file) 512
-    && eqb (countOf file 3) (sumBelow (exitsIn file) 512)
-    && allBelow (λ p. allBelow (exitNamed file p) 8) 512
-    && allBelow (ownerThere file) (countOf file 4)
-    && allBelow (λ s. leb (limitsIn file s) 8) 16
+inPlace file = statesInPlace file && exitsInPlace file && limitsInPlace file

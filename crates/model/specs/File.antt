@@ -1,11 +1,13 @@
 -- The file of a model: its records in order, cut into blocks of 42, numbered and checked.
 use Prim.Native.Nat.{ℕ, zero, suc, _+_, _-_, _*_, _/_, _%_}
-use mathlib.Core.List.{List, [], _∷_, _++_, map}
+use mathlib.Core.Bool.{cond}
+use mathlib.Core.List.{List, [], _∷_, _++_}
+use lib.Dec.{eqb, leb}
 use lib.ListN.{length, take, drop, replicate}
-use Rattle.sets.specs.Below.{table, tableFrom, sumBelow}
+use Rattle.sets.specs.Below.{table, sumBelow, countBelow}
 use Rattle.sets.specs.Groups.{lined}
-use Rattle.model.specs.Check.{checkOf}
-use Rattle.model.specs.Valid.{subjectAt, stateAt, exitAt, rowAt, exitsInAll}
+use Rattle.model.specs.Checks.{checkOf}
+use Rattle.model.specs.Valid.{subjectAt, stateAt, exitAt, rowAt}
 use Rattle.model.specs.declared.Exit.{Exit}
 use Rattle.model.specs.declared.Model.{Model}
 use Rattle.model.specs.declared.Row.{Row}
@@ -47,6 +49,11 @@ exitRecords m = lined (λ p. stateAt m p .exits) (λ p x. exitRecord (p / 32) (p
 unfoldable pub limitRecords : Model → List (List ℕ)
 limitRecords m = lined (λ s. subjectAt m s .rows) (λ s k. limitRecord s (rowAt (subjectAt m s) k)) 16
 
+-- the records of kind k: 1 header, 2 states, 3 exits, 4 limits
+unfoldable pub recordsOf : Model → ℕ → List (List ℕ)
+recordsOf m k =
+    cond (eqb k 1) (headers m) (cond (eqb k 2) (stateRecords m) (cond (eqb k 3) (exitRecords m) (cond (eqb k 4) (limitRecords m) [])))
+
 -- ---- blocks
 
 -- one run of bytes out of many
@@ -65,20 +72,26 @@ fourBytes x = x % 256 ∷ x / 256 % 256 ∷ x / 65536 % 256 ∷ x / 16777216 ∷
 unfoldable pub blockWith : ℕ → ℕ → List (List ℕ) → List ℕ
 blockWith b k rs = bodyWith b k rs ++ fourBytes (checkOf (bodyWith b k rs))
 
+-- ---- the file of records, where `rs k` are those of kind k; of kind 0 and from 5 up there are none
+
 -- how many blocks so many records fill
 abbrev pub blocksFor : ℕ → ℕ
 blocksFor count = (count + 41) / 42
 
--- records of kind k, in blocks from number `first` on: 42 to a block
-unfoldable pub blocksOf : ℕ → ℕ → List (List ℕ) → List (List ℕ)
-blocksOf first k rs = table (λ q. blockWith (first + q) k (take 42 (drop (q * 42) rs))) (blocksFor (length rs))
+-- the first block of kind k: the kinds before it fill as many
+unfoldable pub startOf : (ℕ → List (List ℕ)) → ℕ → ℕ
+startOf rs k = sumBelow (λ j. blocksFor (length (rs j))) k
 
-unfoldable pub fileWith : List (List ℕ) → List (List ℕ) → List (List ℕ) → List (List ℕ) → List ℕ
-fileWith hs ss es ls =
-    joined (blocksOf 0 1 hs)
-    ++ joined (blocksOf (blocksFor (length hs)) 2 ss)
-    ++ joined (blocksOf (blocksFor (length hs) + blocksFor (length ss)) 3 es)
-    ++ joined (blocksOf (blocksFor (length hs) + blocksFor (length ss) + blocksFor (length es)) 4 ls)
+-- the kind of block b: as many kinds, from 0 on, end before it
+unfoldable pub kindAtBlock : (ℕ → List (List ℕ)) → ℕ → ℕ
+kindAtBlock rs b = countBelow (λ k. leb (startOf rs (suc k)) b) 5
+
+-- the records of block b: 42 of its kind, fewer in the last
+unfoldable pub recordsAtBlock : (ℕ → List (List ℕ)) → ℕ → List (List ℕ)
+recordsAtBlock rs b = take 42 (drop ((b - startOf rs (kindAtBlock rs b)) * 42) (rs (kindAtBlock rs b)))
+
+unfoldable pub fileWith : (ℕ → List (List ℕ)) → List ℕ
+fileWith rs = joined (table (λ b. blockWith b (kindAtBlock rs b) (recordsAtBlock rs b)) (startOf rs 5))
 
 unfoldable pub fileOf : Model → List ℕ
-fileOf m = fileWith (headers m) (stateRecords m) (exitRecords m) (limitRecords m)
+fileOf m = fileWith (recordsOf m)

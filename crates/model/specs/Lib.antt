@@ -1,9 +1,9 @@
-pub mod Check
+pub mod Checks
 pub mod Blocks
 pub mod Rules
 pub mod Records
 pub mod Stages
 pub mod Decoded
 pub mod Valid
-pub mod Load
+pub mod Loading
 pub mod File

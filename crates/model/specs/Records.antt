@@ -59,11 +59,11 @@ rowOf r = record { sender = getD r 1 0; typ = getD r 2 0; limit = getD r 3 0 }
 
 -- subject and state of a state's or an exit's record, as one number
 abbrev pub stateKey : List ℕ → ℕ
-stateKey r = getD r 0 0 * 256 + getD r 1 0
+stateKey r = getD r 1 0 + 256 * getD r 0 0
 
 -- subject, state and exit, or owner, sender and type, as one number
 abbrev pub fullKey : List ℕ → ℕ
-fullKey r = stateKey r * 256 + getD r 2 0
+fullKey r = getD r 2 0 + 256 * stateKey r
 
 -- what the records of kind k ascend by; 0 stands before the first record
 unfoldable pub orderOf : ℕ → List ℕ → ℕ

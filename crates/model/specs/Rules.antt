@@ -33,11 +33,15 @@ shapeOf kind =
     (cond (eqb kind 7) (record { least = 0; most = 0; filters = false; waits = false; sends = false })
     (record { least = 1; most = 0; filters = false; waits = false; sends = false }))))))
 
+-- a state's sender and type: a type or any where its kind uses them, else both 255
+unfoldable pub namesFit : Bool → ℕ → ℕ → Bool
+namesFit filters sender typ = cond filters (typeOrAny typ) (eqb sender any && eqb typ any)
+
 -- the fields of a state, by the shape of its kind
 unfoldable pub stateFits : State → Bool
 stateFits st =
     within (shapeOf (st .kind) .least) (st .exits) (shapeOf (st .kind) .most)
-    && cond (shapeOf (st .kind) .filters) (typeOrAny (st .typ)) (eqb (st .sender) any && eqb (st .typ) any)
+    && namesFit (shapeOf (st .kind) .filters) (st .sender) (st .typ)
     && (shapeOf (st .kind) .waits || (eqb (st .timeout) any && eqb (st .cancel) any))
     && same (eqb (st .after) 0) (eqb (st .timeout) any)
     && same (eqb (st .receivers) 0) (not (shapeOf (st .kind) .sends))
@@ -46,7 +50,8 @@ stateFits st =
 unfoldable pub exitFits : ℕ → Exit → Bool
 exitFits kind e =
     cond (eqb kind 3) (not (eqb (e .sender) any) && isType (e .typ))
-    (eqb (e .sender) any && cond (eqb kind 2) (isType (e .typ)) (eqb (e .typ) any))
+    (cond (eqb kind 2) (eqb (e .sender) any && isType (e .typ))
+    (eqb (e .sender) any && eqb (e .typ) any))
 
 -- a limit row: limit 1 to 16, a type or any
 unfoldable pub rowFits : Row → Bool

@@ -1,13 +1,14 @@
 -- What is right of a file's length, of a block and of a record: refusals 1 to 4.
-use Prim.Native.Nat.{ℕ, zero, suc, _+_, _-_, _*_, _%_}
+use mathlib.Core.Path.{_≡_}
+use Prim.Native.Nat.{ℕ, zero, suc, _+_, _-_, _*_, _%_, _<_}
 use mathlib.Core.Bool.{Bool, true, _&&_, _||_, not, cond}
 use mathlib.Core.List.{List, []}
 use lib.Dec.{ltb, leb, eqb}
 use lib.ListN.{length, getD, drop}
 use Rattle.sets.specs.Below.{allBelow}
 use Rattle.sets.specs.Tests.{within, allZero}
-use Rattle.model.specs.Check.{checkOf}
-use Rattle.model.specs.Blocks.{blocks, numberOf, kindOf, usedOf, bodyOf, checkIn, recordOf, recordNo, countOf}
+use Rattle.model.specs.Checks.{checkOf}
+use Rattle.model.specs.Blocks.{blocks, blockOf, numberIn, usedIn, bodyIn, checkIn, kindOf, usedOf, recordOf, recordNo, countOf}
 use Rattle.model.specs.Records.{stateKey, orderOf, stateOf, exitOf, rowOf, blankExits}
 use Rattle.model.specs.Rules.{stateFits, exitFits, rowFits}
 
@@ -15,31 +16,29 @@ use Rattle.model.specs.Rules.{stateFits, exitFits, rowFits}
 unfoldable pub lengthRight : List ℕ → Bool
 lengthRight file = eqb (length file % 512) 0 && within 1 (blocks file) 43
 
--- 2: the check of block b is that of its bytes
-unfoldable pub checkRight : List ℕ → ℕ → Bool
-checkRight file b = eqb (checkIn file b) (checkOf (bodyOf file b))
+-- 2: the check of a block is that of its bytes
+unfoldable pub checkRight : List ℕ → Bool
+checkRight block = eqb (checkIn block) (checkOf (bodyIn block))
 
 -- ---- 3: block number, kind order, record count, fullness, unused room
 
 -- block 0, and only it, is the header; later kinds are 2 to 4 and never fall
-unfoldable pub kindRight : List ℕ → ℕ → Bool
-kindRight file b = cond (eqb b 0) (eqb (kindOf file b) 1) (within 2 (kindOf file b) 4 && leb (kindOf file (b - 1)) (kindOf file b))
-
--- the next block is of the same kind
-abbrev pub goesOn : List ℕ → ℕ → Bool
-goesOn file b = ltb (b + 1) (blocks file) && eqb (kindOf file (b + 1)) (kindOf file b)
+unfoldable pub kindRight : ℕ → ℕ → ℕ → Bool
+kindRight b before kind = cond (eqb b 0) (eqb kind 1) (within 2 kind 4 && leb before kind)
 
 -- every block but the last of its kind is full
-unfoldable pub fullRight : List ℕ → ℕ → Bool
-fullRight file b = eqb (usedOf file b) 42 || not (goesOn file b)
+unfoldable pub fullRight : ℕ → ℕ → ℕ → Bool
+fullRight used kind after = eqb used 42 || not (eqb after kind)
+
+-- number, count and unused room of a block
+unfoldable pub roomRight : ℕ → List ℕ → Bool
+roomRight b block = eqb (numberIn block) b && within 1 (usedIn block) 42 && allZero (drop (4 + 12 * usedIn block) (bodyIn block))
 
 unfoldable pub blockRight : List ℕ → ℕ → Bool
 blockRight file b =
-    eqb (numberOf file b) b
-    && kindRight file b
-    && within 1 (usedOf file b) 42
-    && fullRight file b
-    && allZero (drop (4 + 12 * usedOf file b) (bodyOf file b))
+    roomRight b (blockOf file b)
+    && kindRight b (kindOf file (b - 1)) (kindOf file b)
+    && fullRight (usedOf file b) (kindOf file b) (kindOf file (b + 1))
 
 -- ---- 4: the record alone, after the one before it, and with the exit's own state record
 
@@ -61,6 +60,10 @@ kindAmong file key (suc n) = cond (eqb (stateKey (recordNo file 2 n)) key) (getD
 -- the kind of the exit's own state; 0 where its record is missing
 abbrev pub ownKind : List ℕ → ℕ → ℕ
 ownKind file key = kindAmong file key (countOf file 2)
+
+-- a table that has the kind of every state at its key
+pub record Kinds (file kinds : List ℕ) : Type 0 where
+  pub tells : (key : ℕ) → key < 65536 → getD kinds key 0 ≡ ownKind file key
 
 -- header, first: 1 to 16 subjects, n + 1 records; then one for each subject in order, with 1 to 32 states
 unfoldable pub headerRight : ℕ → ℕ → List ℕ → Bool

@@ -1,9 +1,10 @@
 -- A valid model: n subjects, each with its states, exits and limit rows, every rule kept, all other room zero.
-use Prim.Native.Nat.{ℕ, _+_, _-_, _*_, _/_, _%_}
+use mathlib.Core.Path.{_≡_}
+use Prim.Native.Nat.{ℕ, _+_, _-_, _*_, _/_, _%_, _<_}
 use mathlib.Core.Bool.{Bool, true, _&&_, _||_, not, cond}
 use mathlib.Core.List.{List, []}
 use lib.Dec.{ltb, leb, eqb}
-use lib.ListN.{getD}
+use lib.ListN.{getD, length}
 use Rattle.sets.specs.Below.{allBelow, sumBelow}
 use Rattle.sets.specs.Tests.{within, noneFrom}
 use Rattle.model.specs.Records.{blankExit, blankRow}
@@ -47,22 +48,25 @@ isBlankRow w = eqb (w .sender) 0 && eqb (w .typ) 0 && eqb (w .limit) 0
 -- nothing but zeros, the exits aside
 unfoldable pub isBlankState : State → Bool
 isBlankState st =
-    eqb (st .kind) 0 && eqb (st .exits) 0 && eqb (st .sender) 0 && eqb (st .typ) 0
-    && eqb (st .after) 0 && eqb (st .timeout) 0 && eqb (st .cancel) 0 && eqb (st .receivers) 0
+    (eqb (st .kind) 0 && eqb (st .exits) 0 && eqb (st .sender) 0 && eqb (st .typ) 0)
+    && (eqb (st .after) 0 && eqb (st .timeout) 0 && eqb (st .cancel) 0 && eqb (st .receivers) 0)
 
 -- exit x of a state: right if the state has it, else blank
 unfoldable pub exitValid : ℕ → ℕ → State → ℕ → Bool
 exitValid n states st x =
     cond (ltb x (st .exits)) (exitFits (st .kind) (exitAt st x) && exitReaches n states (exitAt st x)) (isBlankExit (exitAt st x))
 
--- the state with number t of a subject with `states` states: right if the subject has it, else blank
+-- the fields of the state with number t of a subject with `states` states: right if the subject has it, else blank
+unfoldable pub stateOwn : ℕ → ℕ → ℕ → State → Bool
+stateOwn n states t st = cond (ltb t states) (stateFits st && stateReaches n states st) (isBlankState st)
+
+-- the same with its exits
 unfoldable pub stateValid : ℕ → ℕ → ℕ → State → Bool
-stateValid n states t st =
-    cond (ltb t states) (stateFits st && stateReaches n states st) (isBlankState st) && allBelow (exitValid n states st) 8
+stateValid n states t st = stateOwn n states t st && allBelow (exitValid n states st) 8
 
 -- sender and type of a row as one number: the rows of an owner ascend by it
 abbrev pub rowKey : Row → ℕ
-rowKey w = w .sender * 256 + w .typ
+rowKey w = w .typ + 256 * w .sender
 
 -- row k comes after the row before it
 abbrev pub rowAscends : Subject → ℕ → Bool
@@ -74,37 +78,54 @@ rowValid n sub k =
     cond (ltb k (sub .rows)) (rowFits (rowAt sub k) && rowReaches n (rowAt sub k) && rowAscends sub k) (isBlankRow (rowAt sub k))
 
 -- a subject with 1 to 32 states, whose initial state has the given kind and is no end, and with up to 8 rows
-unfoldable pub subjectFits : Subject → ℕ → Bool
+abbrev pub subjectFits : Subject → ℕ → Bool
 subjectFits sub kind =
     within 1 (sub .states) 32 && ltb (sub .initial) (sub .states) && not (eqb kind 7) && leb (sub .rows) 8
 
 abbrev pub isBlankSubject : Subject → Bool
 isBlankSubject sub = eqb (sub .states) 0 && eqb (sub .initial) 0 && eqb (sub .rows) 0
 
--- subject s of n: right if there is one, else blank
+-- the numbers of subject s of n: right if there is one, else blank
+unfoldable pub subjectOwn : ℕ → ℕ → Subject → ℕ → Bool
+subjectOwn n s sub kind = cond (ltb s n) (subjectFits sub kind) (isBlankSubject sub)
+
+-- the same with its rows
 unfoldable pub subjectValid : ℕ → ℕ → Subject → ℕ → Bool
-subjectValid n s sub kind = cond (ltb s n) (subjectFits sub kind) (isBlankSubject sub) && allBelow (rowValid n sub) 8
+subjectValid n s sub kind = subjectOwn n s sub kind && allBelow (rowValid n sub) 8
 
 -- ---- all of it
 
-abbrev pub subjectRight : Model → ℕ → Bool
-subjectRight m s = subjectValid (m .n) s (subjectAt m s) (stateAt m (s * 32 + subjectAt m s .initial) .kind)
+-- the kind of the state at place p
+abbrev pub kindAt : List State → ℕ → ℕ
+kindAt states p = getD states p noState .kind
 
-abbrev pub stateRight : Model → ℕ → Bool
+unfoldable pub subjectRight : Model → ℕ → Bool
+subjectRight m s = subjectValid (m .n) s (subjectAt m s) (kindAt (m .states) (s * 32 + subjectAt m s .initial))
+
+unfoldable pub stateRight : Model → ℕ → Bool
 stateRight m p = stateValid (m .n) (subjectAt m (p / 32) .states) (p % 32) (stateAt m p)
 
 -- the start mask names a subject, and none from n up
-abbrev pub startRight : Model → Bool
-startRight m = not (eqb (m .start) 0) && noneFrom (m .n) (m .start)
+abbrev pub startRight : ℕ → ℕ → Bool
+startRight n start = not (eqb start 0) && noneFrom n start
 
 -- how many exits there are in all
-abbrev pub exitsInAll : Model → ℕ
+unfoldable pub exitsInAll : Model → ℕ
 exitsInAll m = sumBelow (λ p. stateAt m p .exits) 512
 
 unfoldable pub valid : Model → Bool
 valid m =
-    within 1 (m .n) 16
-    && startRight m
+    (within 1 (m .n) 16 && startRight (m .n) (m .start))
     && allBelow (subjectRight m) 16
     && allBelow (stateRight m) 512
     && leb (exitsInAll m) 1024
+
+-- ---- what the machine can hold
+
+-- arrays of their length and numbers of their width: every Model in the machine is so
+pub record Held (m : Model) : Type 0 where
+  pub subjects : length (m .subjects) ≡ 16
+  pub states : length (m .states) ≡ 512
+  pub rows : (s : ℕ) → s < 16 → length (subjectAt m s .row) ≡ 8
+  pub exits : (p : ℕ) → p < 512 → length (stateAt m p .exit) ≡ 8
+  pub afters : (p : ℕ) → p < 512 → stateAt m p .after < 65536

@@ -1,5 +1,19 @@
-// The file reader: model files, the model, its validity.
-ghost use mathlib.Core.Path.{_≡_};
+// The file reader: a model file's bytes, the model they say, and whether a model is valid.
+mod blocks;
+mod checks;
+mod decoded;
+mod loading;
+mod records;
+mod rules;
+mod stages;
+mod valid;
+
+pub use blocks::record;
+pub use checks::check;
+pub use loading::load;
+pub use loading::place;
+pub use loading::refusal;
+pub use valid::is_valid;
 
 // An exit of a state: where it leads; of a receive the sender and the type, of a send the type.
 pub struct Exit {
@@ -15,7 +29,7 @@ pub struct Row {
     pub limit: u8,
 }
 
-// A state: its kind and fields, and its exits.
+// A state: its kind, the number of its exits and its other fields, and the exits.
 pub struct State {
     pub kind: u8,
     pub exits: u8,
@@ -28,7 +42,7 @@ pub struct State {
     pub exit: [Exit; 8],
 }
 
-// A subject: how many states, the initial one, and its limit rows.
+// A subject: how many states it has, the initial one, the number of its limit rows, and the rows.
 pub struct Subject {
     pub states: u8,
     pub initial: u8,
@@ -36,7 +50,7 @@ pub struct Subject {
     pub row: [Row; 8],
 }
 
-// A model: state t of subject s is at place s * 32 + t. Unused room is zero.
+// A model of n subjects: state t of subject s is at place s * 32 + t. Unused room is zero.
 pub struct Model {
     pub n: u8,
     pub start: u16,

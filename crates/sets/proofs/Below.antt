@@ -4,7 +4,7 @@ use mathlib.Core.Logic.{_⊎_, inl, inr, ⊎-elim}
 use mathlib.Core.Bool.{Bool, true, false, _&&_, cond}
 use mathlib.Core.List.{List, [], _∷_, _++_, append-assoc, append-nil}
 use Prim.Native.Nat.{ℕ, zero, suc, _+_, _-_, _*_, _≤_, _<_}
-use native.Mathlib.Nat.{eq-or-lt-of-le, le-antisymm, le-of-suc-le-suc, not-suc-le-zero, sub-self, sub-zero}
+use native.Mathlib.Nat.{eq-or-lt-of-le, le-antisymm, le-of-suc-le-suc, not-suc-le-zero, sub-self, sub-zero, add-zero, add-suc}
 use native.Mathlib.Numerals.{add-one}
 use native.Mathlib.Omega.{arith}
 use lib.ListN.{length, getD, set, replicate, length-append, length-replicate, getD-replicate}
@@ -129,6 +129,13 @@ module _ (f : ℕ → ℕ) where
   unfolding sumBelow
   sum-more i = rw add-one
 
+  -- a turn of a loop that adds up, and its end
+  pub sum-turn : (x y i : ℕ) → x ≡ sumBelow f i → y ≡ f i → x + y ≡ sumBelow f (i + 1)
+  sum-turn x y i e g = rw (sum-more i, e, g)
+
+  pub sum-end : (x i n : ℕ) → i ≤ n → n ≤ i → x ≡ sumBelow f i → x ≡ sumBelow f n
+  sum-end x i n l g e = e ∙ ap (sumBelow f) (le-antisymm l g)
+
   -- each at most k: the sum at most k for each
   pub sum-bound : (k n : ℕ) → ((i : ℕ) → i < n → f i ≤ k) → sumBelow f n ≤ k * n
   unfolding sumBelow
@@ -150,6 +157,18 @@ pub sum-same : (f g : ℕ → ℕ) (n : ℕ) → ((i : ℕ) → i < n → f i �
 unfolding sumBelow
 sum-same f g zero h = refl
 sum-same f g (suc n) h = rw (sum-same f g n (λ i l. h i (omega arith)), h n (omega arith))
+
+-- a sum in two parts
+pub sum-add : (f : ℕ → ℕ) (a b : ℕ) → sumBelow f (a + b) ≡ sumBelow f a + sumBelow (λ i. f (a + i)) b
+unfolding sumBelow
+sum-add f a zero = rw (add-zero, add-zero)
+sum-add f a (suc b) = rw add-suc (omega (arith, sum-add f a b))
+
+-- the same number b times
+pub sum-const : (c n : ℕ) → sumBelow (λ _. c) n ≡ c * n
+unfolding sumBelow
+sum-const c zero = omega arith
+sum-const c (suc n) = omega (arith, sum-const c n)
 
 -- ---- counts
 

@@ -9,9 +9,9 @@ use Rattle.sets.specs.Below.{sumBelow, table}
 abbrev pub placeIn : (ℕ → ℕ) → ℕ → ℕ → ℕ
 placeIn count g k = sumBelow count g + k
 
--- the k-th of group g, where `nth j` is the j-th of the line; `blank` where the group has no more
-unfoldable pub laid : {A : Type 0} → (ℕ → ℕ) → (ℕ → A) → A → ℕ → ℕ → A
-laid count nth blank g k = cond (ltb k (count g)) (nth (placeIn count g k)) blank
+-- a group in `size` places: nth 0, nth 1, .. count of them, the other places blank
+unfoldable pub inPlaces : {A : Type 0} → ℕ → A → ℕ → (ℕ → A) → List A
+inPlaces size blank count nth = table (λ k. cond (ltb k count) (nth k) blank) size
 
 -- the line of the first n groups, where `item g k` is the k-th of group g
 unfoldable pub lined : {A : Type 0} → (ℕ → ℕ) → (ℕ → ℕ → A) → ℕ → List A

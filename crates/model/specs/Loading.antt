@@ -6,7 +6,7 @@ use lib.ListN.{replicate}
 use Rattle.sets.specs.Below.{firstNot}
 use Rattle.sets.specs.declared.Found.{Found}
 use Rattle.sets.specs.declared.Found.the-variants.{At, Nothing}
-use Rattle.model.specs.Blocks.{blocks}
+use Rattle.model.specs.Blocks.{blocks, blockOf}
 use Rattle.model.specs.Decoded.{modelOf, inPlace}
 use Rattle.model.specs.Records.{blankState, blankSubject}
 use Rattle.model.specs.Stages.{lengthRight, checkRight, blockRight, recordsRight}
@@ -33,13 +33,17 @@ unlessAt Nothing why next = next
 abbrev pub acrossRight : List ℕ → Bool
 acrossRight file = inPlace file && valid (modelOf file)
 
+-- 5, or the model
+unfoldable pub acrossOr : List ℕ → Loaded
+acrossOr file = cond (acrossRight file) (record { model = modelOf file; verdict = Good }) (refused Across)
+
 unfoldable pub loaded : List ℕ → Loaded
 loaded file =
     cond (lengthRight file)
-    (unlessAt (firstNot (checkRight file) (blocks file)) Check
+    (unlessAt (firstNot (λ b. checkRight (blockOf file b)) (blocks file)) Check
     (unlessAt (firstNot (blockRight file) (blocks file)) Block
     (unlessAt (firstNot (recordsRight file) (blocks file)) Record
-    (cond (acrossRight file) (record { model = modelOf file; verdict = Good }) (refused Across)))))
+    (acrossOr file))))
     (refused Length)
 
 -- ---- this paper's numbers for each verdict
@@ -54,10 +58,10 @@ refusalOf (Record b) = 4
 refusalOf Across = 5
 
 -- the block it names
-abbrev pub blockOf : Verdict → ℕ
-blockOf Good = 0
-blockOf Length = 0
-blockOf (Check b) = b
-blockOf (Block b) = b
-blockOf (Record b) = b
-blockOf Across = 0
+abbrev pub placeOf : Verdict → ℕ
+placeOf Good = 0
+placeOf Length = 0
+placeOf (Check b) = b
+placeOf (Block b) = b
+placeOf (Record b) = b
+placeOf Across = 0

@@ -1,0 +1,127 @@
+-- Laws of the model that a file's records say: its counts are bytes, and the parts that the code reads and computes are those of the spec.
+use mathlib.Core.Path.{_≡_, refl, ap, _∙_}
+use mathlib.Core.Bool.{Bool, true, false, _&&_, cond}
+use mathlib.Core.List.{List, []}
+use Prim.Native.Nat.{ℕ, _+_, _*_, _/_, _%_, _≤_, _<_}
+use native.Mathlib.Omega.{arith}
+use borrow.Author.Tests.{ltb-true, ltb-false, eqb-true, eqb-false}
+use lib.Dec.{ltb, eqb}
+use lib.ListN.{length, getD, take, drop, length-take, List·getD-eq-default}
+use lib.Seq.{getD-take, getD-drop}
+use mir.Syntax.{w8}
+use mir.Val.{Fits}
+use Rattle.sets.specs.Below.{sumBelow, table}
+use Rattle.sets.proofs.Below.{sum-turn, sum-bound, table-at}
+use Rattle.sets.proofs.Tests.{choose}
+use Rattle.model.specs.Blocks.{blocks, blockOf, usedOf, recordIn, recordOf, recordFrom, firstBlock}
+use Rattle.model.specs.Records.{blankState, stateKey, stateOf}
+use Rattle.model.specs.Decoded.{subjectsIn, rowsIn, subjectIn, statesIn, hasState, exitsIn, stateFrom, stateIn, stateNamed, exitsNamed, exitsNamedIn}
+use Rattle.model.specs.declared.State.{State}
+use Rattle.model.specs.declared.Subject.{Subject}
+
+-- ---- the records of a file of bytes are bytes
+
+record Bytes (l : List ℕ) : Type 0 where
+  at : (i : ℕ) → Fits w8 (getD l i 0)
+
+bytes-take : (n : ℕ) {l : List ℕ} → Bytes l → Bytes (take n l)
+bytes-take n {l} h = record { at = λ i. go i (ltb i n) refl }
+  where
+    go : (i : ℕ) (b : Bool) → ltb i n ≡ b → Fits w8 (getD (take n l) i 0)
+    go i true e = rw (getD-take n l i 0 (ltb-true i n e)) (h .at i)
+    go i false e =
+        let k : length (take n l) ≤ i = omega (arith, length-take n l, ltb-false i n e) in
+        rw (List·getD-eq-default (take n l) 0 {n = i} k) (omega arith)
+
+bytes-drop : (n : ℕ) {l : List ℕ} → Bytes l → Bytes (drop n l)
+bytes-drop n {l} h = record { at = λ i. rw (getD-drop n l i 0) (h .at (n + i)) }
+
+bytes-none : Bytes []
+bytes-none = record { at = λ i. omega arith }
+
+bytes-cond : (t : Bool) {l : List ℕ} → Bytes l → Bytes (cond t l [])
+bytes-cond t h = choose Bytes t (λ e. h) (λ e. bytes-none)
+
+bytes-block : {file : List ℕ} → Bytes file → (b : ℕ) → Bytes (blockOf file b)
+unfolding blockOf
+bytes-block {file} h b = bytes-cond (ltb b (blocks file)) (bytes-take 512 (bytes-drop (b * 512) h))
+
+bytes-record : {file : List ℕ} → Bytes file → (b i : ℕ) → Bytes (recordOf file b i)
+unfolding recordOf recordIn
+bytes-record {file} h b i =
+    bytes-cond (ltb i (usedOf file b) && ltb i 42) (bytes-take 12 (bytes-drop (4 + i * 12) (bytes-block h b)))
+
+-- ---- counts and their sums
+
+module _ (file : List ℕ) where
+  pub rows-few : (s : ℕ) → sumBelow (rowsIn file) s ≤ 8 * s
+  unfolding rowsIn
+  rows-few s = sum-bound _ 8 s (λ i l. omega arith)
+
+  module _ (bytes : (i : ℕ) → Fits w8 (getD file i 0)) where
+    a-byte : (b i k : ℕ) → getD (recordOf file b i) k 0 ≤ 255
+    a-byte b i k = omega (arith, bytes-record {file = file} (record { at = bytes }) b i .at k)
+
+    pub states-few : (s : ℕ) → statesIn file s ≤ 255
+    unfolding statesIn subjectIn
+    states-few s =
+        choose (λ (x : Subject). x .states ≤ 255) (ltb s (subjectsIn file)) (λ e. a-byte _ _ _) (λ e. omega arith)
+
+    pub exits-few : (p : ℕ) → exitsIn file p ≤ 255
+    unfolding exitsIn recordFrom
+    exits-few p =
+        choose (λ (x : ℕ). x ≤ 255) (hasState file p) (λ e. a-byte _ _ _) (λ e. omega arith)
+
+    pub starts-few : (s : ℕ) → sumBelow (statesIn file) s ≤ 255 * s
+    starts-few s = sum-bound (statesIn file) 255 s (λ i l. states-few i)
+
+    pub places-few : (p : ℕ) → sumBelow (exitsIn file) p ≤ 255 * p
+    places-few p = sum-bound (exitsIn file) 255 p (λ i l. exits-few i)
+
+-- a sum over groups of 32 places: the place after p is in the same group, or the first of the next
+pub next-turn : (f : ℕ → ℕ) (p x y r : ℕ) → x ≡ sumBelow f (p / 32) → y ≡ f (p / 32) → r ≡ cond (eqb (p % 32) 31) (x + y) x → r ≡ sumBelow f ((p + 1) / 32)
+next-turn f p x y r e g h = h ∙ go (eqb (p % 32) 31) refl
+  where
+    go : (b : Bool) → eqb (p % 32) 31 ≡ b → cond b (x + y) x ≡ sumBelow f ((p + 1) / 32)
+    go true q =
+        let d : (p + 1) / 32 ≡ p / 32 + 1 = omega (arith, eqb-true (p % 32) 31 q) in
+        rw d (sum-turn f x y (p / 32) e g)
+    go false q =
+        let d : (p + 1) / 32 ≡ p / 32 = omega (arith, eqb-false (p % 32) 31 q) in
+        rw d e
+
+-- ---- the parts of the model
+
+exits-by : (b : Bool) (x y : State) → cond b x y .exits ≡ cond b (x .exits) (y .exits)
+exits-by true x y = refl
+exits-by false x y = refl
+
+module _ (file : List ℕ) where
+  -- how many states the subject at place s has
+  pub states-at : (l : List Subject) (s : ℕ) (d : Subject) → l ≡ table (subjectIn file) 16 → s < 16 → getD l s d .states ≡ statesIn file s
+  unfolding statesIn
+  states-at l s d e h = rw e (ap (λ (x : Subject). x .states) (table-at (subjectIn file) 16 s d h))
+
+  -- how many exits the state at place p has
+  pub exits-are : (p : ℕ) → stateIn file p .exits ≡ exitsIn file p
+  unfolding stateIn exitsIn stateFrom stateOf
+  exits-are p = exits-by (hasState file p) _ _
+
+  pub exits-at : (l : List State) (p : ℕ) (d : State) → l ≡ table (stateIn file) 512 → p < 512 → getD l p d .exits ≡ exitsIn file p
+  exits-at l p d e h = rw e (ap (λ (x : State). x .exits) (table-at (stateIn file) 512 p d h) ∙ exits-are p)
+
+  -- the state at place p, from how many its subject has, where those start and where its exits do
+  module _ (p own start first : ℕ) (o : own ≡ statesIn file (p / 32)) (s : start ≡ sumBelow (statesIn file) (p / 32)) (f : first ≡ firstBlock file 2) where
+    pub state-is : (next place : ℕ) → next ≡ firstBlock file 3 → place ≡ sumBelow (exitsIn file) p
+        → cond (ltb (p % 32) own) (stateFrom file first (start + p % 32) next place) blankState ≡ stateIn file p
+    unfolding stateIn
+    state-is next place n e = rw (o, s, f, n, e)
+
+    pub named-is : cond (ltb (p % 32) own) (eqb (stateKey (recordFrom file first (start + p % 32))) (p % 32 + 256 * (p / 32))) true ≡ stateNamed file p
+    unfolding stateNamed
+    named-is = rw (o, s, f)
+
+  pub exits-named-is : (p exits place first : ℕ) → exits ≡ exitsIn file p → place ≡ sumBelow (exitsIn file) p → first ≡ firstBlock file 3
+      → exitsNamed file first place exits (p % 32 + 256 * (p / 32)) ≡ exitsNamedIn file p
+  unfolding exitsNamedIn
+  exits-named-is p exits place first x e f = rw (x, e, f)

@@ -1,0 +1,26 @@
+use Rattle.model.specs.Records.{stateOf}
+use borrow.Author.Needs.{needs}
+use Rattle.model.proofs.records.state_of.Statement.{statement}
+use Rattle.model.proofs.records.state_of.Tie as tie
+
+returns : tie.Need-returns
+unfolding stateOf
+returns c = cc
+
+pub state-of-spec : {M : Type 1} → statement M
+state-of-spec =
+    tie.close
+    (tie.spec
+    (λ c κs. search needs)
+    (λ c κs. search needs)
+    (λ c κs. search needs)
+    (λ c κs. search needs)
+    (λ c κs. search needs)
+    (λ c κs. search needs)
+    (λ c κs. search needs)
+    (λ c κs. search needs)
+    (λ c κs. search needs)
+    (λ c κs. search needs)
+    (λ c κs. search needs)
+    (λ c κs. search needs)
+    returns)

@@ -1,0 +1,11 @@
+use Rattle.model.specs.Rules.{exitReaches}
+use borrow.Author.Needs.{needs}
+use Rattle.model.proofs.rules.exit_reaches.Statement.{statement}
+use Rattle.model.proofs.rules.exit_reaches.Tie as tie
+
+returns : tie.Need-returns
+unfolding exitReaches
+returns c = cc
+
+pub exit-reaches-spec : {M : Type 1} → statement M
+exit-reaches-spec = tie.close (tie.spec (λ c κs. search needs) (λ c κs. search needs) returns)

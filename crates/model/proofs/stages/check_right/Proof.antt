@@ -1,0 +1,11 @@
+use Rattle.model.specs.Stages.{checkRight}
+use borrow.Author.Needs.{needs}
+use Rattle.model.proofs.stages.check_right.Statement.{statement}
+use Rattle.model.proofs.stages.check_right.Tie as tie
+
+returns : tie.Need-returns
+unfolding checkRight
+returns c = cc
+
+pub check-right-spec : {M : Type 1} → statement M
+check-right-spec = tie.close (tie.spec (λ c κs. search needs) (λ c κs. search needs) (λ c κs. search needs) returns)

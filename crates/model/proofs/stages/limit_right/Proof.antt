@@ -1,0 +1,19 @@
+use Rattle.model.specs.Stages.{limitRight}
+use borrow.Author.Needs.{needs}
+use Rattle.model.proofs.stages.limit_right.Statement.{statement}
+use Rattle.model.proofs.stages.limit_right.Tie as tie
+
+returns : tie.Need-returns
+unfolding limitRight
+returns c = cc
+
+pub limit-right-spec : {M : Type 1} → statement M
+limit-right-spec =
+    tie.close
+    (tie.spec
+    (λ c κs. search needs)
+    (λ c κs. search needs)
+    (λ c κs. search needs)
+    (λ c κs. search needs)
+    (λ c κs. search needs)
+    returns)

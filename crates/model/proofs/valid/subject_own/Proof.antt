@@ -1,0 +1,26 @@
+use borrow.Author.Tests.{lt-ltb, le-ltb}
+use borrow.Author.Needs.{needs}
+use Rattle.model.specs.Valid.{subjectOwn}
+use Rattle.model.proofs.valid.subject_own.Statement.{statement}
+use Rattle.model.proofs.valid.subject_own.Tie as tie
+
+returns : tie.Need-returns
+unfolding subjectOwn
+returns c = rw (lt-ltb _ _ (c .before .before .before .before .before .before .if1 .taken)) (cc)
+
+returns-2 : tie.Need-returns-2
+unfolding subjectOwn
+returns-2 c = rw (le-ltb _ _ (c .before .before .before .before .before .if1 .left)) (cc)
+
+pub subject-own-spec : {M : Type 1} → statement M
+subject-own-spec =
+    tie.close
+    (tie.spec
+    (λ c κs. search needs)
+    (λ c κs. search needs)
+    (λ c κs. search needs)
+    (λ c κs. search needs)
+    returns
+    (λ c κs. search needs)
+    (λ c κs. search needs)
+    returns-2)

@@ -1,0 +1,101 @@
+// Loading: the first refusal that holds, stage by stage over the whole file; else the model.
+ghost use mathlib.Core.Path.{_≡_};
+ghost use Rattle.model.specs.Loading.{emptyModel, refused, acrossOr, loaded, refusalOf, placeOf};
+use super::Loaded;
+use super::Model;
+use super::Verdict;
+use super::decoded;
+use super::stages;
+use super::valid;
+use sets::Found;
+
+// A model with no subjects.
+fn empty() -> Model
+    ensures { λ r. ⌜ r ≡ emptyModel ⌝ }
+{
+    let subject = decoded::no_subject();
+    let state = decoded::no_state();
+    Model {
+        n: 0,
+        start: 0,
+        subjects: [subject; 16],
+        states: [state; 512],
+    }
+}
+
+// A file is refused: the empty model, and why.
+fn refused(why: Verdict) -> Loaded
+    ensures { λ r. ⌜ r ≡ refused why ⌝ }
+{
+    Loaded {
+        model: empty(),
+        verdict: why,
+    }
+}
+
+// The model of the records, where no rule across records is broken.
+fn across(file: &[u8]) -> Loaded
+    ensures { λ r. ⌜ r ≡ acrossOr (now (file .entry)) ⌝ }
+{
+    let model = decoded::model(file);
+    if !decoded::in_place(file, model) {
+        return refused(Verdict::Across);
+    }
+    if !valid::is_valid(model) {
+        return refused(Verdict::Across);
+    }
+    Loaded {
+        model,
+        verdict: Verdict::Good,
+    }
+}
+
+// The model of a file, or the empty model and why the file is refused.
+pub fn load(file: &[u8]) -> Loaded
+    ensures { λ r. ⌜ r ≡ loaded (now (file .entry)) ⌝ }
+{
+    if !stages::length_right(file) {
+        return refused(Verdict::Length);
+    }
+    let check = stages::first_bad_check(file);
+    if let Found::At(b) = check {
+        return refused(Verdict::Check(b));
+    }
+    let block = stages::first_bad_block(file);
+    if let Found::At(b) = block {
+        return refused(Verdict::Block(b));
+    }
+    let record = stages::first_bad_record(file);
+    if let Found::At(b) = record {
+        return refused(Verdict::Record(b));
+    }
+    across(file)
+}
+
+// The number of the refusal; 0 where the file loads.
+pub fn refusal(verdict: Verdict) -> u8
+    ensures { λ r. ⌜ r ≡ refusalOf verdict ⌝ }
+{
+    match verdict {
+        Verdict::Good => 0,
+        Verdict::Length => 1,
+        Verdict::Check(_) => 2,
+        Verdict::Block(_) => 3,
+        Verdict::Record(_) => 4,
+        Verdict::Across => 5,
+    }
+}
+
+// The block that the refusal names.
+pub fn place(verdict: Verdict) -> usize
+    ensures { λ r. ⌜ r ≡ placeOf verdict ⌝ }
+{
+    match verdict {
+        Verdict::Good => 0,
+        Verdict::Length => 0,
+        Verdict::Check(b) => b,
+        Verdict::Block(b) => b,
+        Verdict::Record(b) => b,
+        Verdict::Across => 0,
+    }
+}

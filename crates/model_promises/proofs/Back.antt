@@ -1,0 +1,264 @@
+-- The file of a valid model is read back: each record is where the loader looks for it, and the model that they say is the model.
+use mathlib.Core.Path.{_≡_, refl, sym, ap, subst, _∙_}
+use mathlib.Core.Bool.{Bool, true, false, _&&_, cond}
+use mathlib.Core.List.{List, [], _∷_, _++_}
+use Prim.Native.Nat.{ℕ, zero, suc, _+_, _-_, _*_, _/_, _%_, _≤_, _<_, min}
+use native.Mathlib.Numerals.{add-one}
+use native.Mathlib.Omega.{arith}
+use borrow.Author.Tests.{ltb-true, ltb-false, lt-ltb, le-ltb, eq-eqb, le-leb}
+use lib.Dec.{ltb, leb, eqb}
+use lib.ListN.{length, getD, replicate, getD-replicate, length-replicate}
+use lib.Seq.{ext-getD}
+use Rattle.sets.specs.Below.{allBelow, sumBelow, countBelow, table}
+use Rattle.sets.specs.Groups.{placeIn, inPlaces, lined}
+use Rattle.sets.proofs.Tests.{and-true}
+use Rattle.sets.proofs.Below.{table-at, table-of, length-table, sum-same, sum-has, all-by}
+use Rattle.sets.proofs.Groups.{lined-at, length-lined, Spot, spot, count-group}
+use Rattle.model.specs.Blocks.{firstBlock, recordOf, recordFrom, recordNo, countOf}
+use Rattle.model.specs.Records.{blankExit, blankExits, blankRow, blankRows, blankState, blankSubject, stateOf, exitOf, rowOf, stateKey, fullKey}
+use Rattle.model.specs.Decoded.{subjectsIn, startIn, limitsIn, rowsIn, rowsFrom, subjectIn, statesIn, hasState, stateRecordIn, exitsIn, exitsFrom, stateFrom, stateIn, modelOf, stateNamed, exitsNamed, exitsNamedIn, ownerThere, statesInPlace, exitsInPlace, limitsInPlace, inPlace}
+use Rattle.model.specs.Valid.{subjectAt, stateAt, exitAt, rowAt, noState, noSubject, Held}
+use Rattle.model.specs.File.{headerRecord, subjectRecord, stateRecord, exitRecord, limitRecord, headers, stateRecords, exitRecords, limitRecords, recordsOf}
+use Rattle.model.specs.declared.Exit.{Exit}
+use Rattle.model.specs.declared.Model.{Model}
+use Rattle.model.specs.declared.Row.{Row}
+use Rattle.model.specs.declared.State.{State}
+use Rattle.model.specs.declared.Subject.{Subject}
+use Rattle.model_promises.proofs.Facts.{Small, Empty, GoodExit, GoodRow, GoodSubject, GoodState, GoodModel, statesOf, rowsOf, exitsOf}
+use Rattle.model_promises.proofs.Lines.{length-headers, length-states, length-exits, length-limits}
+use Rattle.model_promises.proofs.Packed.{Packed}
+
+-- ---- a record says what it was made of
+
+pub word-back : (x : ℕ) → x % 256 + 256 * (x / 256) ≡ x
+word-back x = omega arith
+
+state-back : (s t : ℕ) (st : State) → stateOf (stateRecord s t st) (st .exit) ≡ st
+unfolding stateOf
+state-back s t st = rw (word-back (st .after), word-back (st .receivers))
+
+exit-back : (s t x : ℕ) (e : Exit) → exitOf (exitRecord s t x e) ≡ e
+unfolding exitOf
+exit-back s t x e = refl
+
+row-back : (s : ℕ) (w : Row) → rowOf (limitRecord s w) ≡ w
+unfolding rowOf
+row-back s w = refl
+
+-- a list of nothing but blanks
+all-blank : {A : Type 0} (n : ℕ) (d : A) (l : List A) → length l ≡ n → ((i : ℕ) → i < n → getD l i d ≡ d) → replicate n d ≡ l
+all-blank n d l e h =
+    let k = length-replicate n d in
+    ext-getD d (replicate n d) l (k ∙ sym e) (λ i a. let b : i < n = omega arith in getD-replicate n i d d b ∙ sym (h i b))
+
+module _ (m : Model) (held : Held m) (good : GoodModel m) (file : List ℕ) (pk : Packed (recordsOf m) file) where
+  abbrev states : ℕ → ℕ
+  states = statesOf m
+
+  abbrev rows : ℕ → ℕ
+  rows = rowsOf m
+
+  abbrev exits : ℕ → ℕ
+  exits = exitsOf m
+
+  -- ---- the records, found
+
+  pub header-first : recordOf file 0 0 ≡ headerRecord m
+  unfolding recordsOf headers
+  header-first = pk .headers 0 (omega arith)
+
+  pub header-then : (s : ℕ) → s < m .n → recordOf file 0 (s + 1) ≡ subjectRecord s (subjectAt m s)
+  unfolding recordsOf headers
+  header-then s l =
+      rw add-one (pk .headers (suc s) (omega (arith, length-table (λ s. subjectRecord s (subjectAt m s)) (m .n)))
+      ∙ table-at (λ s. subjectRecord s (subjectAt m s)) (m .n) s [] l)
+
+  pub count-states : countOf file 2 ≡ sumBelow states 16
+  unfolding recordsOf
+  count-states = pk .counts 2 (omega arith) (omega arith) ∙ length-states m held good
+
+  count-exits : countOf file 3 ≡ sumBelow exits 512
+  unfolding recordsOf
+  count-exits = pk .counts 3 (omega arith) (omega arith) ∙ length-exits m held good
+
+  count-limits : countOf file 4 ≡ sumBelow rows 16
+  unfolding recordsOf
+  count-limits = pk .counts 4 (omega arith) (omega arith) ∙ length-limits m held good
+
+  pub state-record : (s t : ℕ) → s < 16 → t < states s → recordNo file 2 (placeIn states s t) ≡ stateRecord s t (stateAt m (s * 32 + t))
+  unfolding recordsOf stateRecords
+  state-record s t ls lt =
+      pk .records 2 (placeIn states s t) (omega arith) (omega arith) (omega (arith, length-lined states (λ s t. stateRecord s t (stateAt m (s * 32 + t))) 16, sum-has states s 16 ls))
+      ∙ lined-at states (λ s t. stateRecord s t (stateAt m (s * 32 + t))) 16 s t [] ls lt
+
+  exit-record : (p x : ℕ) → p < 512 → x < exits p → recordNo file 3 (placeIn exits p x) ≡ exitRecord (p / 32) (p % 32) x (exitAt (stateAt m p) x)
+  unfolding recordsOf exitRecords
+  exit-record p x lp lx =
+      pk .records 3 (placeIn exits p x) (omega arith) (omega arith) (omega (arith, length-lined exits (λ p x. exitRecord (p / 32) (p % 32) x (exitAt (stateAt m p) x)) 512, sum-has exits p 512 lp))
+      ∙ lined-at exits (λ p x. exitRecord (p / 32) (p % 32) x (exitAt (stateAt m p) x)) 512 p x [] lp lx
+
+  limit-record : (s k : ℕ) → s < 16 → k < rows s → recordNo file 4 (placeIn rows s k) ≡ limitRecord s (rowAt (subjectAt m s) k)
+  unfolding recordsOf limitRecords
+  limit-record s k ls lk =
+      pk .records 4 (placeIn rows s k) (omega arith) (omega arith) (omega (arith, length-lined rows (λ s k. limitRecord s (rowAt (subjectAt m s) k)) 16, sum-has rows s 16 ls))
+      ∙ lined-at rows (λ s k. limitRecord s (rowAt (subjectAt m s) k)) 16 s k [] ls lk
+
+  -- ---- subjects
+
+  -- the owner of a limit record is the subject in whose group it stands
+  limits-back : (s : ℕ) → s < 16 → limitsIn file s ≡ rows s
+  unfolding limitsIn
+  limits-back s l =
+      rw count-limits
+      (count-group _ rows s 16 (λ g k lg lk. ap (λ (r : List ℕ). eqb (getD r 0 0) s) (limit-record g k lg lk)) ∙ rw (lt-ltb s 16 l))
+
+  rows-back : (s : ℕ) → s < 16 → rowsIn file s ≡ rows s
+  unfolding rowsIn
+  rows-back s l = let few = good .subject s l .rows in omega (arith, limits-back s l)
+
+  -- the rows of subject s
+  row-list : (s : ℕ) → s < 16 → rowsFrom file (firstBlock file 4) (sumBelow (rowsIn file) s) (rowsIn file s) ≡ subjectAt m s .row
+  unfolding rowsFrom inPlaces
+  row-list s l =
+      rw (rows-back s l, sum-same (rowsIn file) rows s (λ i k. rows-back i (omega arith)))
+      (table-of _ 8 blankRow (subjectAt m s .row) (held .rows s l) (λ k lk. each k lk (ltb k (rows s)) refl))
+    where
+      each : (k : ℕ) → k < 8 → (b : Bool) → ltb k (rows s) ≡ b
+          → cond (ltb k (rows s)) (rowOf (recordNo file 4 (placeIn rows s k))) blankRow ≡ rowAt (subjectAt m s) k
+      each k lk true e = rw (e, limit-record s k l (ltb-true _ _ e)) (row-back s _)
+      each k lk false e = rw e (sym (good .subject s l .blank k lk (ltb-false _ _ e)))
+
+  subject-back : (s : ℕ) → s < 16 → subjectIn file s ≡ subjectAt m s
+  unfolding subjectIn
+  subject-back s l = go (ltb s (m .n)) refl
+    where
+      n-back : subjectsIn file ≡ m .n
+      n-back = ap (λ (r : List ℕ). getD r 0 0) header-first
+
+      go : (b : Bool) → ltb s (m .n) ≡ b → subjectIn file s ≡ subjectAt m s
+      go true e = rw (n-back, e, header-then s (ltb-true _ _ e), row-list s l, rows-back s l)
+      go false e =
+          let g = good .subject s l in
+          let z = g .gone (ltb-false _ _ e) in
+          let none = z .2 in
+          let w = all-blank 8 blankRow (subjectAt m s .row) (held .rows s l) (λ k lk. g .blank k lk (omega arith)) in
+          rw (n-back, e) (λ i. record { states = sym (z .0) i; initial = sym (z .1) i; rows = sym (z .2) i; row = w i })
+
+  -- ---- states
+
+  states-back : (s : ℕ) → s < 16 → statesIn file s ≡ states s
+  unfolding statesIn
+  states-back s l = ap (λ (x : Subject). x .states) (subject-back s l)
+
+  starts-back : (s : ℕ) → s ≤ 16 → sumBelow (statesIn file) s ≡ sumBelow states s
+  starts-back s l = sum-same (statesIn file) states s (λ i k. states-back i (omega arith))
+
+  -- the record of the state at place p, where there is one
+  state-there : (p : ℕ) → p < 512 → p % 32 < states (p / 32) → stateRecordIn file p ≡ stateRecord (p / 32) (p % 32) (stateAt m p)
+  state-there p l h =
+      let q : p / 32 * 32 + p % 32 ≡ p = omega arith in
+      rw (starts-back (p / 32) (omega arith))
+      (state-record (p / 32) (p % 32) (omega arith) h ∙ ap (λ (i : ℕ). stateRecord (p / 32) (p % 32) (stateAt m i)) q)
+
+  has-back : (p : ℕ) → p < 512 → hasState file p ≡ ltb (p % 32) (states (p / 32))
+  has-back p l = ap (ltb (p % 32)) (states-back (p / 32) (omega arith))
+
+  exits-back : (p : ℕ) → p < 512 → exitsIn file p ≡ exits p
+  unfolding exitsIn
+  exits-back p l = go (ltb (p % 32) (states (p / 32))) refl
+    where
+      go : (b : Bool) → ltb (p % 32) (states (p / 32)) ≡ b → exitsIn file p ≡ exits p
+      go true e = rw (has-back p l, e, state-there p l (ltb-true _ _ e))
+      go false e = rw (has-back p l, e) (sym (good .state p l .empty (ltb-false _ _ e) .exits))
+
+  exit-starts-back : (p : ℕ) → p ≤ 512 → sumBelow (exitsIn file) p ≡ sumBelow exits p
+  exit-starts-back p l = sum-same (exitsIn file) exits p (λ i k. exits-back i (omega arith))
+
+  -- the exits of the state at place p
+  exit-list : (p : ℕ) → p < 512 → exitsFrom file (firstBlock file 3) (sumBelow (exitsIn file) p) (exits p) ≡ stateAt m p .exit
+  unfolding exitsFrom inPlaces
+  exit-list p l =
+      rw (exit-starts-back p (omega arith))
+      (table-of _ 8 blankExit (stateAt m p .exit) (held .exits p l) (λ x lx. each x lx (ltb x (exits p)) refl))
+    where
+      each : (x : ℕ) → x < 8 → (b : Bool) → ltb x (exits p) ≡ b
+          → cond (ltb x (exits p)) (exitOf (recordNo file 3 (placeIn exits p x))) blankExit ≡ exitAt (stateAt m p) x
+      each x lx true e = rw (e, exit-record p x l (ltb-true _ _ e)) (exit-back (p / 32) (p % 32) x _)
+      each x lx false e = rw e (sym (good .state p l .blank x lx (ltb-false _ _ e)))
+
+  state-in-back : (p : ℕ) → p < 512 → stateIn file p ≡ stateAt m p
+  unfolding stateIn stateFrom
+  state-in-back p l = go (ltb (p % 32) (states (p / 32))) refl
+    where
+      go : (b : Bool) → ltb (p % 32) (states (p / 32)) ≡ b → stateIn file p ≡ stateAt m p
+      go true e = rw (has-back p l, e, state-there p l (ltb-true _ _ e), exit-list p l) (state-back (p / 32) (p % 32) (stateAt m p))
+      go false e =
+          let g = good .state p l in
+          let z = g .empty (ltb-false _ _ e) in
+          let none = z .exits in
+          let w = all-blank 8 blankExit (stateAt m p .exit) (held .exits p l) (λ x lx. g .blank x lx (omega arith)) in
+          rw (has-back p l, e)
+          (λ i. record {
+            kind = sym (z .kind) i;
+            exits = sym (z .exits) i;
+            sender = sym (z .sender) i;
+            typ = sym (z .typ) i;
+            after = sym (z .after) i;
+            timeout = sym (z .timeout) i;
+            cancel = sym (z .cancel) i;
+            receivers = sym (z .receivers) i;
+            exit = w i;
+          })
+
+  -- ---- all of it
+
+  pub model-back : modelOf file ≡ m
+  unfolding modelOf
+  model-back =
+      let a = ap (λ (r : List ℕ). getD r 0 0) header-first in
+      let b = ap (λ (r : List ℕ). getD r 1 0 + 256 * getD r 2 0) header-first ∙ word-back (m .start) in
+      let c = table-of (subjectIn file) 16 noSubject (m .subjects) (held .subjects) subject-back in
+      let d = table-of (stateIn file) 512 noState (m .states) (held .states) state-in-back in
+      λ i. record { n = a i; start = b i; subjects = c i; states = d i }
+
+  -- ---- each record stands where the model has its thing
+
+  states-named : (p : ℕ) → p < 512 → stateNamed file p ≡ true
+  unfolding stateNamed
+  states-named p l = go (ltb (p % 32) (states (p / 32))) refl
+    where
+      go : (b : Bool) → ltb (p % 32) (states (p / 32)) ≡ b → stateNamed file p ≡ true
+      go true e = rw (has-back p l, e, state-there p l (ltb-true _ _ e)) (eq-eqb (p % 32 + 256 * (p / 32)) (p % 32 + 256 * (p / 32)) refl)
+      go false e = rw (has-back p l, e)
+
+  exits-named : (p : ℕ) → p < 512 → exitsNamedIn file p ≡ true
+  unfolding exitsNamedIn exitsNamed
+  exits-named p l =
+      rw (exits-back p l, exit-starts-back p (omega arith))
+      (all-by _ (exits p) (λ x lx. eq-eqb _ _ (ap fullKey (exit-record p x l lx))))
+
+  -- the owner of a limit record has rows, so it is one of the n
+  owner-there : (j : ℕ) → j < sumBelow rows 16 → ownerThere file j ≡ true
+  unfolding ownerThere
+  owner-there j l =
+      let s = spot rows 16 j l in
+      let own = ap (λ (r : List ℕ). getD r 0 0) (ap (recordNo file 4) (sym (s .place)) ∙ limit-record (s .g) (s .k) (s .group) (s .inside)) in
+      rw (own, ap (λ (r : List ℕ). getD r 0 0) header-first) (lt-ltb _ _ (known (s .g) (s .k) (s .group) (s .inside)))
+    where
+      known : (g k : ℕ) → g < 16 → k < rows g → g < m .n
+      known g k lg lk = go (ltb g (m .n)) refl
+        where
+          go : (b : Bool) → ltb g (m .n) ≡ b → g < m .n
+          go true e = ltb-true _ _ e
+          go false e = let z = good .subject g lg .gone (ltb-false _ _ e) .2 in absurd (omega arith)
+
+  pub place-back : inPlace file ≡ true
+  unfolding inPlace statesInPlace exitsInPlace limitsInPlace
+  place-back =
+      and-true
+      (and-true
+      (and-true (all-by _ 512 states-named) (eq-eqb _ _ (count-states ∙ sym (starts-back 16 (omega arith)))))
+      (and-true (all-by _ 512 exits-named) (eq-eqb _ _ (count-exits ∙ sym (exit-starts-back 512 (omega arith))))))
+      (and-true
+      (all-by _ _ (λ j l. owner-there j (rw count-limits at l)))
+      (all-by _ 16 (λ s l. le-leb (limitsIn file s) 8 (rw (limits-back s l) (good .subject s l .rows)))))

@@ -1,0 +1,9 @@
+pub mod Pieces
+pub mod Block
+pub mod Places
+pub mod Packed
+pub mod Facts
+pub mod Lines
+pub mod Back
+pub mod Right
+pub mod Loads

@@ -13,7 +13,7 @@ use mir.Val.{Fits}
 use Rattle.sets.specs.Below.{sumBelow, table}
 use Rattle.sets.proofs.Below.{sum-turn, sum-bound, table-at}
 use Rattle.sets.proofs.Tests.{choose}
-use Rattle.model.specs.Blocks.{blocks, blockOf, usedOf, recordIn, recordOf, recordFrom, firstBlock}
+use Rattle.blocks.specs.Blocks.{blocks, blockOf, usedOf, recordIn, recordOf, recordFrom, firstBlock}
 use Rattle.model.specs.Records.{blankState, stateKey, stateOf}
 use Rattle.model.specs.Decoded.{subjectsIn, rowsIn, subjectIn, statesIn, hasState, exitsIn, stateFrom, stateIn, stateNamed, exitsNamed, exitsNamedIn}
 use Rattle.model.specs.declared.State.{State}

@@ -1,5 +1,3 @@
 pub mod Arrays
-pub mod FoldLaws
-pub mod BlockLaws
 pub mod StageLaws
 pub mod DecodedLaws

@@ -9,7 +9,7 @@ use borrow.Author.Tests.{eqb-true, eqb-false}
 use lib.Dec.{eqb}
 use lib.ListN.{length, getD, set, replicate, length-set, length-replicate, getD-replicate}
 use lib.Seq.{getD-set-same, getD-set-other}
-use Rattle.model.specs.Blocks.{firstBlock, countOf, recordFrom}
+use Rattle.blocks.specs.Blocks.{firstBlock, countOf, recordFrom}
 use Rattle.model.specs.Records.{stateKey}
 use Rattle.model.specs.Stages.{kindAmong, Kinds}
 

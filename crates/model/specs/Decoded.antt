@@ -7,7 +7,7 @@ use lib.ListN.{getD}
 use Rattle.sets.specs.Below.{allBelow, sumBelow, countBelow, table}
 use Rattle.sets.specs.Groups.{placeIn, inPlaces}
 use Rattle.sets.specs.Tests.{wordAt}
-use Rattle.model.specs.Blocks.{firstBlock, recordOf, recordFrom, recordNo, countOf}
+use Rattle.blocks.specs.Blocks.{firstBlock, recordOf, recordFrom, recordNo, countOf}
 use Rattle.model.specs.Records.{blankExit, blankRow, blankState, blankSubject, stateOf, exitOf, rowOf, stateKey, fullKey}
 use Rattle.model.specs.declared.Exit.{Exit}
 use Rattle.model.specs.declared.Model.{Model}

@@ -6,7 +6,7 @@ use lib.Dec.{eqb, leb}
 use lib.ListN.{length, take, drop, replicate}
 use Rattle.sets.specs.Below.{table, sumBelow, countBelow}
 use Rattle.sets.specs.Groups.{lined}
-use Rattle.model.specs.Checks.{checkOf}
+use Rattle.blocks.specs.Checks.{checkOf}
 use Rattle.model.specs.Valid.{subjectAt, stateAt, exitAt, rowAt}
 use Rattle.model.specs.declared.Exit.{Exit}
 use Rattle.model.specs.declared.Model.{Model}

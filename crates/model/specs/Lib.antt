@@ -1,5 +1,3 @@
-pub mod Checks
-pub mod Blocks
 pub mod Rules
 pub mod Records
 pub mod Stages

@@ -6,15 +6,15 @@ use lib.ListN.{replicate}
 use Rattle.sets.specs.Below.{firstNot}
 use Rattle.sets.specs.declared.Found.{Found}
 use Rattle.sets.specs.declared.Found.the-variants.{At, Nothing}
-use Rattle.model.specs.Blocks.{blocks, blockOf}
+use Rattle.blocks.specs.Blocks.{blocks, blockOf, checkRight}
 use Rattle.model.specs.Decoded.{modelOf, inPlace}
 use Rattle.model.specs.Records.{blankState, blankSubject}
-use Rattle.model.specs.Stages.{lengthRight, checkRight, blockRight, recordsRight}
+use Rattle.model.specs.Stages.{lengthRight, blockRight, recordsRight}
 use Rattle.model.specs.Valid.{valid}
 use Rattle.model.specs.declared.Loaded.{Loaded}
 use Rattle.model.specs.declared.Model.{Model}
-use Rattle.model.specs.declared.Verdict.{Verdict}
-use Rattle.model.specs.declared.Verdict.the-variants.{Good, Length, Check, Block, Record, Across}
+use Rattle.blocks.specs.declared.Verdict.{Verdict}
+use Rattle.blocks.specs.declared.Verdict.the-variants.{Good, Length, Check, Block, Record, Across}
 
 -- no subjects
 unfoldable pub emptyModel : Model
@@ -45,23 +45,3 @@ loaded file =
     (unlessAt (firstNot (recordsRight file) (blocks file)) Record
     (acrossOr file))))
     (refused Length)
-
--- ---- this paper's numbers for each verdict
-
--- the number of the refusal; 0 is none
-abbrev pub refusalOf : Verdict → ℕ
-refusalOf Good = 0
-refusalOf Length = 1
-refusalOf (Check b) = 2
-refusalOf (Block b) = 3
-refusalOf (Record b) = 4
-refusalOf Across = 5
-
--- the block it names
-abbrev pub placeOf : Verdict → ℕ
-placeOf Good = 0
-placeOf Length = 0
-placeOf (Check b) = b
-placeOf (Block b) = b
-placeOf (Record b) = b
-placeOf Across = 0

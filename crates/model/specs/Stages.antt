@@ -1,4 +1,4 @@
--- What is right of a file's length, of a block and of a record: refusals 1 to 4.
+-- What is right of a file's length, of a block and of a record: refusals 1, 3 and 4. (2 is a block's own: its check.)
 use mathlib.Core.Path.{_≡_}
 use Prim.Native.Nat.{ℕ, zero, suc, _+_, _-_, _*_, _%_, _<_}
 use mathlib.Core.Bool.{Bool, true, _&&_, _||_, not, cond}
@@ -7,18 +7,13 @@ use lib.Dec.{ltb, leb, eqb}
 use lib.ListN.{length, getD, drop}
 use Rattle.sets.specs.Below.{allBelow}
 use Rattle.sets.specs.Tests.{within, allZero}
-use Rattle.model.specs.Checks.{checkOf}
-use Rattle.model.specs.Blocks.{blocks, blockOf, numberIn, usedIn, bodyIn, checkIn, kindOf, usedOf, recordOf, recordNo, countOf}
+use Rattle.blocks.specs.Blocks.{blocks, blockOf, roomRight, kindOf, usedOf, recordOf, recordNo, countOf}
 use Rattle.model.specs.Records.{stateKey, orderOf, stateOf, exitOf, rowOf, blankExits}
 use Rattle.model.specs.Rules.{stateFits, exitFits, rowFits}
 
 -- 1: the length is 1 to 43 whole blocks
 unfoldable pub lengthRight : List ℕ → Bool
 lengthRight file = eqb (length file % 512) 0 && within 1 (blocks file) 43
-
--- 2: the check of a block is that of its bytes
-unfoldable pub checkRight : List ℕ → Bool
-checkRight block = eqb (checkIn block) (checkOf (bodyIn block))
 
 -- ---- 3: block number, kind order, record count, fullness, unused room
 
@@ -29,10 +24,6 @@ kindRight b before kind = cond (eqb b 0) (eqb kind 1) (within 2 kind 4 && leb be
 -- every block but the last of its kind is full
 unfoldable pub fullRight : ℕ → ℕ → ℕ → Bool
 fullRight used kind after = eqb used 42 || not (eqb after kind)
-
--- number, count and unused room of a block
-unfoldable pub roomRight : ℕ → List ℕ → Bool
-roomRight b block = eqb (numberIn block) b && within 1 (usedIn block) 42 && allZero (drop (4 + 12 * usedIn block) (bodyIn block))
 
 unfoldable pub blockRight : List ℕ → ℕ → Bool
 blockRight file b =

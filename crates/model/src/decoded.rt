@@ -6,7 +6,7 @@ ghost use mathlib.Core.List.{List};
 ghost use Prim.Native.Nat.{ℕ, _+_, _≤_, _<_};
 ghost use lib.Dec.{ltb, leb, eqb};
 ghost use Rattle.sets.specs.Below.{allBelow, sumBelow, table};
-ghost use Rattle.model.specs.Blocks.{firstBlock, countOf, recordFrom};
+ghost use Rattle.blocks.specs.Blocks.{firstBlock, countOf, recordFrom};
 ghost use Rattle.model.specs.Records.{blankExit, blankRow, blankState, blankSubject, stateKey, exitOf, rowOf};
 ghost use Rattle.model.specs.Decoded.{subjectsIn, limitsIn, rowsIn, rowsFrom, subjectIn, exitsFrom, stateIn, modelOf, exitsNamed, ownerThere, statesInPlace, exitsInPlace, limitsInPlace, inPlace, stateFrom};
 use super::Exit;
@@ -14,10 +14,9 @@ use super::Model;
 use super::Row;
 use super::State;
 use super::Subject;
-use super::blocks;
-use super::blocks::record;
-use super::blocks::record_from;
 use super::records;
+use blocks::record;
+use blocks::record_from;
 use sets::byte;
 
 // ---- subjects and their limit rows

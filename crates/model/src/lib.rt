@@ -1,6 +1,4 @@
 // The file reader: a model file's bytes, the model they say, and whether a model is valid.
-mod blocks;
-mod checks;
 mod decoded;
 mod loading;
 mod records;
@@ -8,11 +6,12 @@ mod rules;
 mod stages;
 mod valid;
 
+pub use blocks::Verdict;
+pub use blocks::check;
+pub use blocks::place;
 pub use blocks::record;
-pub use checks::check;
+pub use blocks::refusal;
 pub use loading::load;
-pub use loading::place;
-pub use loading::refusal;
 pub use valid::is_valid;
 
 // An exit of a state: where it leads; of a receive the sender and the type, of a send the type.
@@ -65,16 +64,6 @@ pub struct Shape {
     pub filters: bool,
     pub waits: bool,
     pub sends: bool,
-}
-
-// Whether a file loads, and why not.
-pub enum Verdict {
-    Good,
-    Length,
-    Check(usize),
-    Block(usize),
-    Record(usize),
-    Across,
 }
 
 // The model beside the verdict: the empty one where the file is refused.

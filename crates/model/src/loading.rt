@@ -1,12 +1,12 @@
 // Loading: the first refusal that holds, stage by stage over the whole file; else the model.
 ghost use mathlib.Core.Path.{_≡_};
-ghost use Rattle.model.specs.Loading.{emptyModel, refused, acrossOr, loaded, refusalOf, placeOf};
+ghost use Rattle.model.specs.Loading.{emptyModel, refused, acrossOr, loaded};
 use super::Loaded;
 use super::Model;
-use super::Verdict;
 use super::decoded;
 use super::stages;
 use super::valid;
+use blocks::Verdict;
 use sets::Found;
 
 // A model with no subjects.
@@ -70,32 +70,4 @@ pub fn load(file: &[u8]) -> Loaded
         return refused(Verdict::Record(b));
     }
     across(file)
-}
-
-// The number of the refusal; 0 where the file loads.
-pub fn refusal(verdict: Verdict) -> u8
-    ensures { λ r. ⌜ r ≡ refusalOf verdict ⌝ }
-{
-    match verdict {
-        Verdict::Good => 0,
-        Verdict::Length => 1,
-        Verdict::Check(_) => 2,
-        Verdict::Block(_) => 3,
-        Verdict::Record(_) => 4,
-        Verdict::Across => 5,
-    }
-}
-
-// The block that the refusal names.
-pub fn place(verdict: Verdict) -> usize
-    ensures { λ r. ⌜ r ≡ placeOf verdict ⌝ }
-{
-    match verdict {
-        Verdict::Good => 0,
-        Verdict::Length => 0,
-        Verdict::Check(b) => b,
-        Verdict::Block(b) => b,
-        Verdict::Record(b) => b,
-        Verdict::Across => 0,
-    }
 }

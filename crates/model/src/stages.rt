@@ -1,16 +1,14 @@
-// What is right of a file's length, of a block and of a record: refusals 1 to 4.
+// What is right of a file's length, of a block and of a record: refusals 1 to 4; 2 is a block's own.
 ghost use mathlib.Core.Path.{_≡_};
 ghost use Prim.Native.Nat.{ℕ, _+_, _-_, _<_};
 ghost use lib.ListN.{getD};
 ghost use Rattle.sets.specs.Below.{firstNot};
-ghost use Rattle.model.specs.Blocks.{blocks, blockOf, kindOf, firstBlock, countOf};
-ghost use Rattle.model.specs.Stages.{lengthRight, checkRight, kindRight, fullRight, roomRight, blockRight, recordBefore, Kinds, headerRight, exitRight, limitRight, fieldsRight, recordRight, recordsRight};
-use super::blocks;
-use super::blocks::block;
-use super::blocks::record;
-use super::checks::check;
+ghost use Rattle.blocks.specs.Blocks.{blocks, blockOf, checkRight, kindOf, firstBlock, countOf};
+ghost use Rattle.model.specs.Stages.{lengthRight, kindRight, fullRight, blockRight, recordBefore, Kinds, headerRight, exitRight, limitRight, fieldsRight, recordRight, recordsRight};
 use super::records;
 use super::rules;
+use blocks::block;
+use blocks::record;
 use sets::Found;
 use sets::both;
 use sets::byte;
@@ -26,13 +24,6 @@ pub(crate) fn length_right(file: &[u8]) -> bool
     both(file.len() % 512 == 0, both(1 <= n, n <= 43))
 }
 
-// 2: the check of a block is that of its bytes.
-fn check_right(block: &[u8]) -> bool
-    ensures { λ r. ⌜ r ≡ checkRight (now (block .entry)) ⌝ }
-{
-    blocks::stored_check(block) == check(blocks::body(block))
-}
-
 // The first block whose check is wrong.
 pub(crate) fn first_bad_check(file: &[u8]) -> Found
     ensures { λ r. ⌜ r ≡ firstNot (λ b. checkRight (blockOf (now (file .entry)) b)) (blocks (now (file .entry))) ⌝ }
@@ -40,7 +31,7 @@ pub(crate) fn first_bad_check(file: &[u8]) -> Found
     let n = file.len() / 512;
     let mut b = 0;
     while b < n {
-        if !check_right(block(file, b)) {
+        if !blocks::check_right(block(file, b)) {
             return Found::At(b);
         }
         b += 1;
@@ -79,16 +70,6 @@ fn full_right(used: u8, kind: u8, after: u8) -> bool
     sets::either(used == 42, after != kind)
 }
 
-// Number, count and unused room of a block are right.
-fn room_right(b: usize, block: &[u8]) -> bool
-    ensures { λ r. ⌜ r ≡ roomRight b (now (block .entry)) ⌝ }
-{
-    let number = sets::word(byte(block, 0), byte(block, 1)) as usize;
-    let used = byte(block, 3);
-    let unused = rest(blocks::body(block), 4 + 12 * (used as usize));
-    both(both(number == b, is_within(1, used, 42)), is_zero(unused))
-}
-
 // 3: block b is right, between the one before it and the one after it.
 fn block_right(file: &[u8], b: usize) -> bool
     requires { ⌜ b < blocks (now file) ⌝ }
@@ -98,7 +79,7 @@ fn block_right(file: &[u8], b: usize) -> bool
     let kind = byte(part, 2);
     let ordered = kind_right(b, kind_of(file, before(b)), kind);
     let full = full_right(byte(part, 3), kind, kind_of(file, b + 1));
-    both(both(room_right(b, part), ordered), full)
+    both(both(blocks::room_right(b, part), ordered), full)
 }
 
 // The first block that is wrong.

@@ -14,7 +14,7 @@ use Rattle.sets.specs.Groups.{placeIn, inPlaces, lined}
 use Rattle.sets.proofs.Tests.{and-true}
 use Rattle.sets.proofs.Below.{table-at, table-of, length-table, sum-same, sum-has, all-by}
 use Rattle.sets.proofs.Groups.{lined-at, length-lined, Spot, spot, count-group}
-use Rattle.model.specs.Blocks.{firstBlock, recordOf, recordFrom, recordNo, countOf}
+use Rattle.blocks.specs.Blocks.{firstBlock, recordOf, recordFrom, recordNo, countOf}
 use Rattle.model.specs.Records.{blankExit, blankExits, blankRow, blankRows, blankState, blankSubject, stateOf, exitOf, rowOf, stateKey, fullKey}
 use Rattle.model.specs.Decoded.{subjectsIn, startIn, limitsIn, rowsIn, rowsFrom, subjectIn, statesIn, hasState, stateRecordIn, exitsIn, exitsFrom, stateFrom, stateIn, modelOf, stateNamed, exitsNamed, exitsNamedIn, ownerThere, statesInPlace, exitsInPlace, limitsInPlace, inPlace}
 use Rattle.model.specs.Valid.{subjectAt, stateAt, exitAt, rowAt, noState, noSubject, Held}

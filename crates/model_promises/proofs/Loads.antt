@@ -9,16 +9,16 @@ use Rattle.sets.specs.declared.Found.{Found}
 use Rattle.sets.specs.declared.Found.the-variants.{At, Nothing}
 use Rattle.sets.proofs.Tests.{and-true, and-both, not-both}
 use Rattle.sets.proofs.Below.{FirstNot, first-each, first-is, first-by, first-found}
-use Rattle.model.specs.Blocks.{blocks, blockOf}
+use Rattle.blocks.specs.Blocks.{blocks, blockOf, checkRight, roomRight}
 use Rattle.model.specs.Decoded.{modelOf, inPlace}
 use Rattle.model.specs.Loading.{loaded, acrossRight, acrossOr, refused, unlessAt, emptyModel}
-use Rattle.model.specs.Stages.{lengthRight, checkRight, blockRight, recordsRight}
+use Rattle.model.specs.Stages.{lengthRight, blockRight, recordsRight}
 use Rattle.model.specs.File.{fileOf, recordsOf}
 use Rattle.model.specs.Valid.{valid, Held}
 use Rattle.model.specs.declared.Loaded.{Loaded}
 use Rattle.model.specs.declared.Model.{Model}
-use Rattle.model.specs.declared.Verdict.{Verdict}
-use Rattle.model.specs.declared.Verdict.the-variants.{Good, Length, Check, Block, Record, Across}
+use Rattle.blocks.specs.declared.Verdict.{Verdict}
+use Rattle.blocks.specs.declared.Verdict.the-variants.{Good, Length, Check, Block, Record, Across}
 use Rattle.model_promises.specs.Loads.{AreBytes, LoadsTo, Passes1, Passes2, Passes3, Passes4, FirstWrong, Means, wrong-length, wrong-check, wrong-block, wrong-record, wrong-across, all-right}
 use Rattle.model_promises.proofs.Back.{model-back, place-back}
 use Rattle.model_promises.proofs.Facts.{model-good}

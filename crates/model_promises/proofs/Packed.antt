@@ -9,8 +9,8 @@ use borrow.Author.Tests.{ltb-true, ltb-false, lt-ltb, le-leb, eqb-false, eq-eqb,
 use lib.Dec.{ltb, eqb}
 use lib.ListN.{length, getD}
 use Rattle.sets.proofs.Tests.{and-true, within-true}
-use Rattle.model.specs.Blocks.{blocks, blockOf, kindOf, usedOf, recordOf, recordNo, countOf}
-use Rattle.model.specs.Stages.{lengthRight, checkRight, kindRight, fullRight, roomRight, blockRight, recordBefore}
+use Rattle.blocks.specs.Blocks.{blocks, blockOf, kindOf, usedOf, recordOf, recordNo, countOf, checkRight, roomRight}
+use Rattle.model.specs.Stages.{lengthRight, kindRight, fullRight, blockRight, recordBefore}
 use Rattle.model.specs.File.{startOf, fileWith}
 use Rattle.model_promises.proofs.Pieces.{length-part, byte-at}
 use Rattle.model_promises.proofs.Block.{check-right, room-right}

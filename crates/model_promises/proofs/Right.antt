@@ -14,7 +14,7 @@ use Rattle.sets.specs.Tests.{within, allZero}
 use Rattle.sets.proofs.Tests.{and-true, within-true}
 use Rattle.sets.proofs.Below.{table-at, length-table, all-by, sum-has}
 use Rattle.sets.proofs.Groups.{lined-at, length-lined, Spot, spot, line-ascends}
-use Rattle.model.specs.Blocks.{blocks, kindOf, usedOf, recordOf, recordNo, countOf}
+use Rattle.blocks.specs.Blocks.{blocks, kindOf, usedOf, recordOf, recordNo, countOf}
 use Rattle.model.specs.Records.{blankExits, stateOf, exitOf, rowOf, stateKey, fullKey, orderOf}
 use Rattle.model.specs.Rules.{stateFits, exitFits, rowFits}
 use Rattle.model.specs.Stages.{recordBefore, ascends, kindAmong, ownKind, headerRight, exitRight, limitRight, fieldsRight, recordRight, recordsRight}

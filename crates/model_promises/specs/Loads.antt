@@ -4,13 +4,13 @@ use mathlib.Core.Bool.{true, false}
 use mathlib.Core.List.{List}
 use Prim.Native.Nat.{ℕ, _<_}
 use lib.ListN.{getD}
-use Rattle.model.specs.Blocks.{blocks, blockOf}
+use Rattle.blocks.specs.Blocks.{blocks, blockOf, checkRight, roomRight}
 use Rattle.model.specs.Decoded.{modelOf}
 use Rattle.model.specs.Loading.{loaded, acrossRight}
-use Rattle.model.specs.Stages.{lengthRight, checkRight, blockRight, recordsRight}
+use Rattle.model.specs.Stages.{lengthRight, blockRight, recordsRight}
 use Rattle.model.specs.declared.Model.{Model}
-use Rattle.model.specs.declared.Verdict.{Verdict}
-use Rattle.model.specs.declared.Verdict.the-variants.{Good, Length, Check, Block, Record, Across}
+use Rattle.blocks.specs.declared.Verdict.{Verdict}
+use Rattle.blocks.specs.declared.Verdict.the-variants.{Good, Length, Check, Block, Record, Across}
 
 -- every number of the file is a byte
 abbrev pub AreBytes : List ℕ → Type 0

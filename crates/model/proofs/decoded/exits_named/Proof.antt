@@ -5,7 +5,7 @@ use borrow.Author.Tests.{eq-eqb, ne-eqb}
 use lib.Dec.{eqb}
 use Rattle.sets.specs.Below.{allBelow}
 use Rattle.sets.proofs.Below.{all-start, all-more, all-stop, all-end}
-use Rattle.model.specs.Blocks.{recordFrom}
+use Rattle.blocks.specs.Blocks.{recordFrom}
 use Rattle.model.specs.Records.{fullKey}
 use Rattle.model.specs.Decoded.{exitsNamed}
 use borrow.Author.Needs.{needs}

@@ -8,7 +8,7 @@ use lib.Dec.{eqb}
 use lib.ListN.{getD}
 use Rattle.sets.specs.Below.{countBelow}
 use Rattle.sets.proofs.Below.{count-start, count-bound, sum-turn, sum-end}
-use Rattle.model.specs.Blocks.{recordNo}
+use Rattle.blocks.specs.Blocks.{recordNo}
 use Rattle.model.specs.Decoded.{limitsIn}
 use borrow.Author.Needs.{needs}
 use Rattle.model.proofs.decoded.limits_in.Statement.{statement}

@@ -5,7 +5,7 @@ use lib.Dec.{ltb}
 use Rattle.sets.specs.Below.{filled}
 use Rattle.sets.specs.Groups.{inPlaces}
 use Rattle.sets.proofs.Below.{fill-start, fill-turn, fill-end}
-use Rattle.model.specs.Blocks.{recordFrom}
+use Rattle.blocks.specs.Blocks.{recordFrom}
 use Rattle.model.specs.Records.{rowOf, blankRow}
 use Rattle.model.specs.Decoded.{rowsFrom}
 use borrow.Author.Needs.{needs}

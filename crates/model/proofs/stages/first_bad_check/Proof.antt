@@ -5,8 +5,7 @@ use borrow.Author.Tests.{not-true, not-false}
 use Rattle.sets.specs.Below.{firstNot}
 use Rattle.sets.specs.declared.Found.the-variants.{Nothing}
 use Rattle.sets.proofs.Below.{first-start, first-more, first-found, first-end}
-use Rattle.model.specs.Blocks.{blockOf}
-use Rattle.model.specs.Stages.{checkRight}
+use Rattle.blocks.specs.Blocks.{blockOf, checkRight}
 use Rattle.model.proofs.stages.first_bad_check.Statement.{statement}
 use Rattle.model.proofs.stages.first_bad_check.Tie as tie
 

@@ -7,3 +7,5 @@ pub mod Lines
 pub mod Back
 pub mod Right
 pub mod Loads
+pub mod One
+pub mod Worked

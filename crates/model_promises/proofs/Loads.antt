@@ -1,22 +1,30 @@
 -- What loads is valid, a valid model is loaded from its own file, and each verdict means what it says.
 use mathlib.Core.Path.{_≡_, refl, sym, ap, subst, _∙_}
-use mathlib.Core.Bool.{Bool, true, false, cond}
+use mathlib.Core.Bool.{Bool, true, false, _&&_, cond}
+use mathlib.Core.Logic.{_↔_}
 use mathlib.Core.List.{List, []}
-use Prim.Native.Nat.{ℕ, _<_}
+use Prim.Native.Nat.{ℕ, zero, suc, _+_, _*_, _/_, _%_, _<_}
 use native.Mathlib.Omega.{arith}
+use lib.Dec.{ltb}
+use lib.ListN.{length, take, drop}
 use Rattle.sets.specs.Below.{firstNot}
+use Rattle.sets.specs.Groups.{placeIn}
+use Rattle.sets.proofs.Groups.{length-in-places}
 use Rattle.sets.specs.declared.Found.{Found}
 use Rattle.sets.specs.declared.Found.the-variants.{At, Nothing}
-use Rattle.sets.proofs.Tests.{and-true, and-both, not-both}
-use Rattle.sets.proofs.Below.{FirstNot, first-each, first-is, first-by, first-found}
-use Rattle.blocks.specs.Blocks.{blocks, blockOf, checkRight, roomRight}
-use Rattle.model.specs.Decoded.{modelOf, inPlace}
+use Rattle.sets.proofs.Tests.{and-true, and-both, choose}
+use Rattle.sets.proofs.Below.{FirstNot, first-each, first-is, first-by, first-found, length-table, table-at}
+use Rattle.blocks.specs.Blocks.{blocks, blockOf, checkRight, usedIn, recordIn, recordOf, recordFrom, firstBlock}
+use Rattle.model.specs.Decoded.{subjectsIn, rowsFrom, subjectIn, statesIn, hasState, exitsFrom, stateFrom, stateIn, modelOf, inPlace}
+use Rattle.model.specs.Records.{stateOf}
 use Rattle.model.specs.Loading.{loaded, acrossRight, acrossOr, refused, unlessAt, emptyModel}
 use Rattle.model.specs.Stages.{lengthRight, blockRight, recordsRight}
 use Rattle.model.specs.File.{fileOf, recordsOf}
-use Rattle.model.specs.Valid.{valid, Held}
+use Rattle.model.specs.Valid.{noState, noSubject, valid, Held}
 use Rattle.model.specs.declared.Loaded.{Loaded}
 use Rattle.model.specs.declared.Model.{Model}
+use Rattle.model.specs.declared.State.{State}
+use Rattle.model.specs.declared.Subject.{Subject}
 use Rattle.blocks.specs.declared.Verdict.{Verdict}
 use Rattle.blocks.specs.declared.Verdict.the-variants.{Good, Length, Check, Block, Record, Across}
 use Rattle.model_promises.specs.Loads.{AreBytes, LoadsTo, Passes1, Passes2, Passes3, Passes4, FirstWrong, Means, wrong-length, wrong-check, wrong-block, wrong-record, wrong-across, all-right}
@@ -24,6 +32,7 @@ use Rattle.model_promises.proofs.Back.{model-back, place-back}
 use Rattle.model_promises.proofs.Facts.{model-good}
 use Rattle.model_promises.proofs.Lines.{sound}
 use Rattle.model_promises.proofs.Packed.{Packed, packed}
+use Rattle.model_promises.proofs.Pieces.{Bytes, none, _&_, byte-at, bytes-by}
 use Rattle.model_promises.proofs.Right as right
 
 -- ---- what each verdict means
@@ -127,3 +136,79 @@ valid-loads m held ok =
     let back = model-back m held good (fileOf m) pk in
     let across = and-true (place-back m held good (fileOf m) pk) (subst (λ (x : Model). valid x ≡ true) (sym back) ok) in
     (pk .are-bytes, good-model (fileOf m) (pk .length-right) (pk .checks) (pk .blocks-right) (right.all-right m held good (fileOf m) pk) across ∙ ap (λ (x : Model). record { model = x; verdict = Good }) back)
+
+-- ---- what loads is a model that the machine can hold
+
+-- parts of a run of bytes are bytes
+take-bytes : (n : ℕ) {s : List ℕ} → Bytes s → Bytes (take n s)
+take-bytes zero b = none
+take-bytes (suc n) none = none
+take-bytes (suc n) (h & b) = h & take-bytes n b
+
+drop-bytes : (n : ℕ) {s : List ℕ} → Bytes s → Bytes (drop n s)
+drop-bytes zero b = b
+drop-bytes (suc n) none = none
+drop-bytes (suc n) (h & b) = drop-bytes n b
+
+block-bytes : (file : List ℕ) (b : ℕ) → Bytes file → Bytes (blockOf file b)
+unfolding blockOf
+block-bytes file b h = choose Bytes (ltb b (blocks file)) (λ _. take-bytes 512 (drop-bytes (b * 512) h)) (λ _. none)
+
+record-in-bytes : (block : List ℕ) (i : ℕ) → Bytes block → Bytes (recordIn block i)
+unfolding recordIn
+record-in-bytes block i h = choose Bytes (ltb i (usedIn block) && ltb i 42) (λ _. take-bytes 12 (drop-bytes (4 + i * 12) h)) (λ _. none)
+
+record-bytes : (file : List ℕ) (first j : ℕ) → Bytes file → Bytes (recordFrom file first j)
+unfolding recordFrom recordOf
+record-bytes file first j h = record-in-bytes (blockOf file (first + j / 42)) (j % 42) (block-bytes file (first + j / 42) h)
+
+subject-row : (file : List ℕ) (s : ℕ) → length (subjectIn file s .row) ≡ 8
+unfolding subjectIn rowsFrom
+subject-row file s = choose (λ (x : Subject). length (x .row) ≡ 8) (ltb s (subjectsIn file)) (λ _. length-in-places 8 _ _ _) (λ _. refl)
+
+state-exit : (file : List ℕ) (p : ℕ) → length (stateIn file p .exit) ≡ 8
+unfolding stateIn stateFrom stateOf exitsFrom
+state-exit file p = choose (λ (x : State). length (x .exit) ≡ 8) (hasState file p) (λ _. length-in-places 8 _ _ _) (λ _. refl)
+
+state-after : (file : List ℕ) (p : ℕ) → AreBytes file → stateIn file p .after < 65536
+unfolding stateIn stateFrom stateOf
+state-after file p h =
+    choose (λ (x : State). x .after < 65536) (hasState file p)
+    (λ _. let b = byte-at (record-bytes file (firstBlock file 2) (placeIn (statesIn file) (p / 32) (p % 32)) (bytes-by file h)) in omega (arith, b 6, b 7))
+    (λ _. omega arith)
+
+model-held : (file : List ℕ) → AreBytes file → Held (modelOf file)
+unfolding modelOf
+model-held file h =
+    record {
+      subjects = length-table (subjectIn file) 16;
+      states = length-table (stateIn file) 512;
+      rows = λ s l. rw (table-at (subjectIn file) 16 s noSubject l) (subject-row file s);
+      exits = λ p l. rw (table-at (stateIn file) 512 p noState l) (state-exit file p);
+      afters = λ p l. rw (table-at (stateIn file) 512 p noState l) (state-after file p h);
+    }
+
+pub loads-held : (file : List ℕ) (m : Model) → AreBytes file → LoadsTo file m → Held m
+loads-held file m b h = subst Held (sym (loading file m h .model)) (model-held file b)
+
+-- A MODEL THAT THE MACHINE CAN HOLD IS VALID EXACTLY WHEN SOME FILE OF BYTES LOADS TO IT
+pub valid-exactly : (m : Model) → Held m → (valid m ≡ true) ↔ ((file : List ℕ) × AreBytes file × LoadsTo file m)
+valid-exactly m held = (λ ok. let l = valid-loads m held ok in (fileOf m, l .0, l .1), λ f. loads-valid (f .0) m (f .2))
+
+-- A FILE THAT IS REFUSED GIVES THE EMPTY MODEL
+pub refused-empty : (file : List ℕ) → (loaded file .verdict ≡ Good → ⊥) → loaded file .model ≡ emptyModel
+unfolding loaded acrossOr
+refused-empty file =
+    choose P (lengthRight file)
+    (λ _. at Check (firstNot (λ b. checkRight (blockOf file b)) (blocks file))
+    (at Block (firstNot (blockRight file) (blocks file))
+    (at Record (firstNot (recordsRight file) (blocks file))
+    (choose P (acrossRight file) (λ _ h. absurd (h refl)) (λ _ h. refl)))))
+    (λ _ h. refl)
+  where
+    P : Loaded → Type 0
+    P x = (x .verdict ≡ Good → ⊥) → x .model ≡ emptyModel
+
+    at : (why : ℕ → Verdict) (f : Found) {next : Loaded} → P next → P (unlessAt f why next)
+    at why (At b) p = λ h. refl
+    at why Nothing p = p

@@ -1,0 +1,108 @@
+-- Every public call has one result: two results that its contract allows are equal. `Learnt` is the contract's ensures, as a caller has it.
+use mathlib.Core.Path.{_≡_, sym, _∙_}
+use mathlib.Core.List.{List}
+use Prim.Native.Nat.{ℕ}
+use borrow.Fn.Kinds.{PK, RK, Out, Dens, resT, endedOf}
+use contract.Lifetimes.{Lfts}
+use denote.Triple.Clauses.{AtExit}
+use denote.Ref.{now}
+use Rattle.sets.proofs.both.Reads as both-call
+use Rattle.sets.proofs.either.Reads as either-call
+use Rattle.sets.proofs.same.Reads as same-call
+use Rattle.sets.proofs.is_within.Reads as is-within-call
+use Rattle.sets.proofs.byte.Reads as byte-call
+use Rattle.sets.proofs.word.Reads as word-call
+use Rattle.sets.proofs.is_zero.Reads as is-zero-call
+use Rattle.sets.proofs.none_from.Reads as none-from-call
+use Rattle.blocks.proofs.checks.check.Reads as check-call
+use Rattle.blocks.proofs.parts.check_right.Reads as check-right-call
+use Rattle.blocks.proofs.parts.room_right.Reads as room-right-call
+use Rattle.blocks.proofs.parts.first_block.Reads as first-block-call
+use Rattle.blocks.proofs.parts.count_of.Reads as count-of-call
+use Rattle.blocks.proofs.verdicts.refusal.Reads as refusal-call
+use Rattle.blocks.proofs.verdicts.place.Reads as place-call
+use Rattle.model.proofs.loading.load.Reads as load-call
+use Rattle.model.proofs.valid.is_valid.Reads as is-valid-call
+use Rattle.sets.proofs.rest.Reads as rest-call
+use Rattle.sets.proofs.rest.Kinds as rest-call-kinds
+use Rattle.blocks.proofs.parts.block.Reads as block-call
+use Rattle.blocks.proofs.parts.block.Kinds as block-call-kinds
+use Rattle.blocks.proofs.parts.record.Reads as record-call
+use Rattle.blocks.proofs.parts.record.Kinds as record-call-kinds
+use Rattle.blocks.proofs.parts.record_from.Reads as record-from-call
+use Rattle.blocks.proofs.parts.record_from.Kinds as record-from-call-kinds
+
+-- a contract that allows one result at the most
+abbrev pub OneResult : {n : ℕ} {ps : List (PK n)} {r : RK n} → Out n ps r → Type 0
+OneResult {n} {ps} {r} Q = (κs : Lfts n) (a : Dens κs ps) (x y : resT r κs .Denot) (e : AtExit (endedOf n ps r) κs) → Q κs a x e → Q κs a y e → x ≡ y
+
+-- ---- tests, bytes and masks
+
+pub both-one : OneResult both-call.Learnt
+both-one κs a x y e p q = p ∙ sym q
+
+pub either-one : OneResult either-call.Learnt
+either-one κs a x y e p q = p ∙ sym q
+
+pub same-one : OneResult same-call.Learnt
+same-one κs a x y e p q = p ∙ sym q
+
+pub is-within-one : OneResult is-within-call.Learnt
+is-within-one κs a x y e p q = p ∙ sym q
+
+pub byte-one : OneResult byte-call.Learnt
+byte-one κs a x y e p q = p ∙ sym q
+
+pub word-one : OneResult word-call.Learnt
+word-one κs a x y e p q = p ∙ sym q
+
+pub is-zero-one : OneResult is-zero-call.Learnt
+is-zero-one κs a x y e p q = p ∙ sym q
+
+pub none-from-one : OneResult none-from-call.Learnt
+none-from-one κs a x y e p q = p ∙ sym q
+
+-- ---- files in blocks
+
+pub check-one : OneResult check-call.Learnt
+check-one κs a x y e p q = p ∙ sym q
+
+pub check-right-one : OneResult check-right-call.Learnt
+check-right-one κs a x y e p q = p ∙ sym q
+
+pub room-right-one : OneResult room-right-call.Learnt
+room-right-one κs a x y e p q = p ∙ sym q
+
+pub first-block-one : OneResult first-block-call.Learnt
+first-block-one κs a x y e p q = p ∙ sym q
+
+pub count-of-one : OneResult count-of-call.Learnt
+count-of-one κs a x y e p q = p ∙ sym q
+
+pub refusal-one : OneResult refusal-call.Learnt
+refusal-one κs a x y e p q = p ∙ sym q
+
+pub place-one : OneResult place-call.Learnt
+place-one κs a x y e p q = p ∙ sym q
+
+-- ---- the file reader
+
+pub load-one : OneResult load-call.Learnt
+load-one κs a x y e p q = p ∙ sym q
+
+pub is-valid-one : OneResult is-valid-call.Learnt
+is-valid-one κs a x y e p q = p ∙ sym q
+
+-- ---- a part of the caller's slice: the bytes are fixed, and the part is the caller's own
+
+pub rest-one : (κs : Lfts 1) (a : Dens κs rest-call-kinds.ps) (x y : resT rest-call-kinds.r κs .Denot) (e : AtExit (endedOf 1 rest-call-kinds.ps rest-call-kinds.r) κs) → rest-call.Learnt κs a x e → rest-call.Learnt κs a y e → now x ≡ now y
+rest-one κs a x y e p q = p ∙ sym q
+
+pub block-one : (κs : Lfts 1) (a : Dens κs block-call-kinds.ps) (x y : resT block-call-kinds.r κs .Denot) (e : AtExit (endedOf 1 block-call-kinds.ps block-call-kinds.r) κs) → block-call.Learnt κs a x e → block-call.Learnt κs a y e → now x ≡ now y
+block-one κs a x y e p q = p ∙ sym q
+
+pub record-one : (κs : Lfts 1) (a : Dens κs record-call-kinds.ps) (x y : resT record-call-kinds.r κs .Denot) (e : AtExit (endedOf 1 record-call-kinds.ps record-call-kinds.r) κs) → record-call.Learnt κs a x e → record-call.Learnt κs a y e → now x ≡ now y
+record-one κs a x y e p q = p ∙ sym q
+
+pub record-from-one : (κs : Lfts 1) (a : Dens κs record-from-call-kinds.ps) (x y : resT record-from-call-kinds.r κs .Denot) (e : AtExit (endedOf 1 record-from-call-kinds.ps record-from-call-kinds.r) κs) → record-from-call.Learnt κs a x e → record-from-call.Learnt κs a y e → now x ≡ now y
+record-from-one κs a x y e p q = p ∙ sym q

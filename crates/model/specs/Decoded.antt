@@ -8,6 +8,7 @@ use Rattle.sets.specs.Below.{allBelow, sumBelow, countBelow, table}
 use Rattle.sets.specs.Groups.{placeIn, inPlaces}
 use Rattle.sets.specs.Tests.{wordAt}
 use Rattle.blocks.specs.Blocks.{firstBlock, recordOf, recordFrom, recordNo, countOf}
+use Rattle.model.specs.Sizes.{mostSubjects, mostStates, statePlaces, mostExits, mostRows}
 use Rattle.model.specs.Records.{blankExit, blankRow, blankState, blankSubject, stateOf, exitOf, rowOf, stateKey, fullKey}
 use Rattle.model.specs.declared.Exit.{Exit}
 use Rattle.model.specs.declared.Model.{Model}
@@ -30,11 +31,11 @@ limitsIn file s = countBelow (λ j. eqb (getD (recordNo file 4 j) 0 0) s) (count
 
 -- how many of them the model has room for
 unfoldable pub rowsIn : List ℕ → ℕ → ℕ
-rowsIn file s = min (limitsIn file s) 8
+rowsIn file s = min (limitsIn file s) mostRows
 
 -- so many rows, from the record with number `place` on, counted from block `first`
 unfoldable pub rowsFrom : List ℕ → ℕ → ℕ → ℕ → List Row
-rowsFrom file first place rows = inPlaces 8 blankRow rows (λ k. rowOf (recordFrom file first (place + k)))
+rowsFrom file first place rows = inPlaces mostRows blankRow rows (λ k. rowOf (recordFrom file first (place + k)))
 
 -- subject s: header record s + 1 has its states and its initial state; its rows come after those of the subjects before it
 unfoldable pub subjectIn : List ℕ → ℕ → Subject
@@ -54,13 +55,13 @@ subjectIn file s =
 unfoldable pub statesIn : List ℕ → ℕ → ℕ
 statesIn file s = subjectIn file s .states
 
--- the subject p / 32 has a state p % 32
+-- the subject of place p has the state of place p
 abbrev pub hasState : List ℕ → ℕ → Bool
-hasState file p = ltb (p % 32) (statesIn file (p / 32))
+hasState file p = ltb (p % mostStates) (statesIn file (p / mostStates))
 
 -- its record, after those of the subjects before it
 abbrev pub stateRecordIn : List ℕ → ℕ → List ℕ
-stateRecordIn file p = recordNo file 2 (placeIn (statesIn file) (p / 32) (p % 32))
+stateRecordIn file p = recordNo file 2 (placeIn (statesIn file) (p / mostStates) (p % mostStates))
 
 -- how many exits the state at place p has
 unfoldable pub exitsIn : List ℕ → ℕ → ℕ
@@ -68,7 +69,7 @@ exitsIn file p = cond (hasState file p) (getD (stateRecordIn file p) 3 0) 0
 
 -- so many exits, from the record with number `place` on, counted from block `first`
 unfoldable pub exitsFrom : List ℕ → ℕ → ℕ → ℕ → List Exit
-exitsFrom file first place exits = inPlaces 8 blankExit exits (λ x. exitOf (recordFrom file first (place + x)))
+exitsFrom file first place exits = inPlaces mostExits blankExit exits (λ x. exitOf (recordFrom file first (place + x)))
 
 -- the state of record j, with its exits from the record with number `place` on
 unfoldable pub stateFrom : List ℕ → ℕ → ℕ → ℕ → ℕ → State
@@ -79,18 +80,18 @@ stateFrom file first j next place =
 unfoldable pub stateIn : List ℕ → ℕ → State
 stateIn file p =
     cond (hasState file p)
-    (stateFrom file (firstBlock file 2) (placeIn (statesIn file) (p / 32) (p % 32)) (firstBlock file 3) (sumBelow (exitsIn file) p))
+    (stateFrom file (firstBlock file 2) (placeIn (statesIn file) (p / mostStates) (p % mostStates)) (firstBlock file 3) (sumBelow (exitsIn file) p))
     blankState
 
 unfoldable pub modelOf : List ℕ → Model
 modelOf file =
-    record { n = subjectsIn file; start = startIn file; subjects = table (subjectIn file) 16; states = table (stateIn file) 512 }
+    record { n = subjectsIn file; start = startIn file; subjects = table (subjectIn file) mostSubjects; states = table (stateIn file) statePlaces }
 
 -- ---- 5: a state or exit missing or too many, a limit's owner that does not exist, more than 8 rows
 
 -- the record of each state names it
 unfoldable pub stateNamed : List ℕ → ℕ → Bool
-stateNamed file p = cond (hasState file p) (eqb (stateKey (stateRecordIn file p)) (p % 32 + 256 * (p / 32))) true
+stateNamed file p = cond (hasState file p) (eqb (stateKey (stateRecordIn file p)) (p % mostStates + 256 * (p / mostStates))) true
 
 -- so many exits, from the record with number `place` on, name the state with the key and 0, 1, ..
 unfoldable pub exitsNamed : List ℕ → ℕ → ℕ → ℕ → ℕ → Bool
@@ -98,7 +99,7 @@ exitsNamed file first place exits key = allBelow (λ x. eqb (fullKey (recordFrom
 
 -- the records of the exits of the state at place p name them
 unfoldable pub exitsNamedIn : List ℕ → ℕ → Bool
-exitsNamedIn file p = exitsNamed file (firstBlock file 3) (sumBelow (exitsIn file) p) (exitsIn file p) (p % 32 + 256 * (p / 32))
+exitsNamedIn file p = exitsNamed file (firstBlock file 3) (sumBelow (exitsIn file) p) (exitsIn file p) (p % mostStates + 256 * (p / mostStates))
 
 -- limit record j has an owner that exists
 unfoldable pub ownerThere : List ℕ → ℕ → Bool
@@ -106,15 +107,15 @@ ownerThere file j = ltb (getD (recordNo file 4 j) 0 0) (subjectsIn file)
 
 -- the state records are those of the subjects' states, in order, and no more
 unfoldable pub statesInPlace : List ℕ → Bool
-statesInPlace file = allBelow (stateNamed file) 512 && eqb (countOf file 2) (sumBelow (statesIn file) 16)
+statesInPlace file = allBelow (stateNamed file) statePlaces && eqb (countOf file 2) (sumBelow (statesIn file) mostSubjects)
 
 -- the exit records are those of the states' exits, in order, and no more
 unfoldable pub exitsInPlace : List ℕ → Bool
-exitsInPlace file = allBelow (exitsNamedIn file) 512 && eqb (countOf file 3) (sumBelow (exitsIn file) 512)
+exitsInPlace file = allBelow (exitsNamedIn file) statePlaces && eqb (countOf file 3) (sumBelow (exitsIn file) statePlaces)
 
 -- every limit record has an owner, and no owner more than 8
 unfoldable pub limitsInPlace : List ℕ → Bool
-limitsInPlace file = allBelow (ownerThere file) (countOf file 4) && allBelow (λ s. leb (limitsIn file s) 8) 16
+limitsInPlace file = allBelow (ownerThere file) (countOf file 4) && allBelow (λ s. leb (limitsIn file s) mostRows) mostSubjects
 
 unfoldable pub inPlace : List ℕ → Bool
 inPlace file = statesInPlace file && exitsInPlace file && limitsInPlace file

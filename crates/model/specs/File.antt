@@ -7,6 +7,7 @@ use lib.ListN.{length, take, drop, replicate}
 use Rattle.sets.specs.Below.{table, sumBelow, countBelow}
 use Rattle.sets.specs.Groups.{lined}
 use Rattle.blocks.specs.Checks.{checkOf}
+use Rattle.model.specs.Sizes.{mostSubjects, mostStates, statePlaces}
 use Rattle.model.specs.Valid.{subjectAt, stateAt, exitAt, rowAt}
 use Rattle.model.specs.declared.Exit.{Exit}
 use Rattle.model.specs.declared.Model.{Model}
@@ -41,13 +42,13 @@ unfoldable pub headers : Model → List (List ℕ)
 headers m = headerRecord m ∷ table (λ s. subjectRecord s (subjectAt m s)) (m .n)
 
 unfoldable pub stateRecords : Model → List (List ℕ)
-stateRecords m = lined (λ s. subjectAt m s .states) (λ s t. stateRecord s t (stateAt m (s * 32 + t))) 16
+stateRecords m = lined (λ s. subjectAt m s .states) (λ s t. stateRecord s t (stateAt m (s * mostStates + t))) mostSubjects
 
 unfoldable pub exitRecords : Model → List (List ℕ)
-exitRecords m = lined (λ p. stateAt m p .exits) (λ p x. exitRecord (p / 32) (p % 32) x (exitAt (stateAt m p) x)) 512
+exitRecords m = lined (λ p. stateAt m p .exits) (λ p x. exitRecord (p / mostStates) (p % mostStates) x (exitAt (stateAt m p) x)) statePlaces
 
 unfoldable pub limitRecords : Model → List (List ℕ)
-limitRecords m = lined (λ s. subjectAt m s .rows) (λ s k. limitRecord s (rowAt (subjectAt m s) k)) 16
+limitRecords m = lined (λ s. subjectAt m s .rows) (λ s k. limitRecord s (rowAt (subjectAt m s) k)) mostSubjects
 
 -- the records of kind k: 1 header, 2 states, 3 exits, 4 limits
 unfoldable pub recordsOf : Model → ℕ → List (List ℕ)

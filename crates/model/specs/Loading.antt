@@ -7,6 +7,7 @@ use Rattle.sets.specs.Below.{firstNot}
 use Rattle.sets.specs.declared.Found.{Found}
 use Rattle.sets.specs.declared.Found.the-variants.{At, Nothing}
 use Rattle.blocks.specs.Blocks.{blocks, blockOf, checkRight}
+use Rattle.model.specs.Sizes.{mostSubjects, statePlaces}
 use Rattle.model.specs.Decoded.{modelOf, inPlace}
 use Rattle.model.specs.Records.{blankState, blankSubject}
 use Rattle.model.specs.Stages.{lengthRight, blockRight, recordsRight}
@@ -18,7 +19,7 @@ use Rattle.blocks.specs.declared.Verdict.the-variants.{Good, Length, Check, Blo
 
 -- no subjects
 unfoldable pub emptyModel : Model
-emptyModel = record { n = 0; start = 0; subjects = replicate 16 blankSubject; states = replicate 512 blankState }
+emptyModel = record { n = 0; start = 0; subjects = replicate mostSubjects blankSubject; states = replicate statePlaces blankState }
 
 -- a file is refused: the empty model, and why
 abbrev pub refused : Verdict → Loaded

@@ -5,6 +5,7 @@ use mathlib.Core.List.{List}
 use lib.Dec.{eqb}
 use lib.ListN.{length, getD, replicate}
 use Rattle.sets.specs.Tests.{wordAt}
+use Rattle.model.specs.Sizes.{mostExits, mostRows}
 use Rattle.model.specs.declared.Exit.{Exit}
 use Rattle.model.specs.declared.Row.{Row}
 use Rattle.model.specs.declared.State.{State}
@@ -16,13 +17,13 @@ abbrev pub blankExit : Exit
 blankExit = record { target = 0; sender = 0; typ = 0 }
 
 abbrev pub blankExits : List Exit
-blankExits = replicate 8 blankExit
+blankExits = replicate mostExits blankExit
 
 abbrev pub blankRow : Row
 blankRow = record { sender = 0; typ = 0; limit = 0 }
 
 abbrev pub blankRows : List Row
-blankRows = replicate 8 blankRow
+blankRows = replicate mostRows blankRow
 
 abbrev pub blankState : State
 blankState = record { kind = 0; exits = 0; sender = 0; typ = 0; after = 0; timeout = 0; cancel = 0; receivers = 0; exit = blankExits }

@@ -3,6 +3,7 @@ use Prim.Native.Nat.{ℕ, _+_, _*_}
 use mathlib.Core.Bool.{Bool, true, false, _&&_, _||_, not, cond}
 use lib.Dec.{ltb, leb, eqb}
 use Rattle.sets.specs.Tests.{within, same, noneFrom}
+use Rattle.model.specs.Sizes.{mostExits, mostLimit, types}
 use Rattle.model.specs.declared.Exit.{Exit}
 use Rattle.model.specs.declared.Row.{Row}
 use Rattle.model.specs.declared.Shape.{Shape}
@@ -14,7 +15,7 @@ any = 255
 
 -- a message type: 0 to 31
 abbrev pub isType : ℕ → Bool
-isType t = ltb t 32
+isType t = ltb t types
 
 abbrev pub typeOrAny : ℕ → Bool
 typeOrAny t = isType t || eqb t any
@@ -25,9 +26,9 @@ typeOrAny t = isType t || eqb t any
 -- Of any other kind no number of exits is right.
 unfoldable pub shapeOf : ℕ → Shape
 shapeOf kind =
-    cond (eqb kind 1) (record { least = 1; most = 8; filters = false; waits = true; sends = false })
+    cond (eqb kind 1) (record { least = 1; most = mostExits; filters = false; waits = true; sends = false })
     (cond (eqb kind 2) (record { least = 1; most = 1; filters = false; waits = true; sends = true })
-    (cond (eqb kind 3) (record { least = 1; most = 8; filters = false; waits = true; sends = false })
+    (cond (eqb kind 3) (record { least = 1; most = mostExits; filters = false; waits = true; sends = false })
     (cond (within 4 kind 5) (record { least = 1; most = 1; filters = true; waits = false; sends = false })
     (cond (eqb kind 6) (record { least = 2; most = 2; filters = true; waits = false; sends = false })
     (cond (eqb kind 7) (record { least = 0; most = 0; filters = false; waits = false; sends = false })
@@ -55,7 +56,7 @@ exitFits kind e =
 
 -- a limit row: limit 1 to 16, a type or any
 unfoldable pub rowFits : Row → Bool
-rowFits w = within 1 (w .limit) 16 && typeOrAny (w .typ)
+rowFits w = within 1 (w .limit) mostLimit && typeOrAny (w .typ)
 
 -- ---- what has to exist
 

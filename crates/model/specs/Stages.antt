@@ -8,12 +8,13 @@ use lib.ListN.{length, getD, drop}
 use Rattle.sets.specs.Below.{allBelow}
 use Rattle.sets.specs.Tests.{within, allZero}
 use Rattle.blocks.specs.Blocks.{blocks, blockOf, roomRight, kindOf, usedOf, recordOf, recordNo, countOf}
+use Rattle.model.specs.Sizes.{mostBlocks, mostSubjects, mostStates}
 use Rattle.model.specs.Records.{stateKey, orderOf, stateOf, exitOf, rowOf, blankExits}
 use Rattle.model.specs.Rules.{stateFits, exitFits, rowFits}
 
 -- 1: the length is 1 to 43 whole blocks
 unfoldable pub lengthRight : List ℕ → Bool
-lengthRight file = eqb (length file % 512) 0 && within 1 (blocks file) 43
+lengthRight file = eqb (length file % 512) 0 && within 1 (blocks file) mostBlocks
 
 -- ---- 3: block number, kind order, record count, fullness, unused room
 
@@ -59,7 +60,7 @@ pub record Kinds (file kinds : List ℕ) : Type 0 where
 -- header, first: 1 to 16 subjects, n + 1 records; then one for each subject in order, with 1 to 32 states
 unfoldable pub headerRight : ℕ → ℕ → List ℕ → Bool
 headerRight used i r =
-    cond (eqb i 0) (within 1 (getD r 0 0) 16 && eqb used (getD r 0 0 + 1)) (eqb (getD r 0 0 + 1) i && within 1 (getD r 1 0) 32)
+    cond (eqb i 0) (within 1 (getD r 0 0) mostSubjects && eqb used (getD r 0 0 + 1)) (eqb (getD r 0 0 + 1) i && within 1 (getD r 1 0) mostStates)
     && allZero (drop 3 r)
 
 -- an exit of a state of the given kind; where that state is missing, refusal 5 judges it

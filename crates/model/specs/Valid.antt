@@ -7,6 +7,7 @@ use lib.Dec.{ltb, leb, eqb}
 use lib.ListN.{getD, length}
 use Rattle.sets.specs.Below.{allBelow, sumBelow}
 use Rattle.sets.specs.Tests.{within, noneFrom}
+use Rattle.model.specs.Sizes.{mostSubjects, mostStates, statePlaces, mostExits, mostExitsInAll, mostRows}
 use Rattle.model.specs.Records.{blankExit, blankRow}
 use Rattle.model.specs.Rules.{stateFits, exitFits, rowFits, stateReaches, exitReaches, rowReaches}
 use Rattle.model.specs.declared.Exit.{Exit}
@@ -62,7 +63,7 @@ stateOwn n states t st = cond (ltb t states) (stateFits st && stateReaches n sta
 
 -- the same with its exits
 unfoldable pub stateValid : ℕ → ℕ → ℕ → State → Bool
-stateValid n states t st = stateOwn n states t st && allBelow (exitValid n states st) 8
+stateValid n states t st = stateOwn n states t st && allBelow (exitValid n states st) mostExits
 
 -- sender and type of a row as one number: the rows of an owner ascend by it
 abbrev pub rowKey : Row → ℕ
@@ -80,7 +81,7 @@ rowValid n sub k =
 -- a subject with 1 to 32 states, whose initial state has the given kind and is no end, and with up to 8 rows
 abbrev pub subjectFits : Subject → ℕ → Bool
 subjectFits sub kind =
-    within 1 (sub .states) 32 && ltb (sub .initial) (sub .states) && not (eqb kind 7) && leb (sub .rows) 8
+    within 1 (sub .states) mostStates && ltb (sub .initial) (sub .states) && not (eqb kind 7) && leb (sub .rows) mostRows
 
 abbrev pub isBlankSubject : Subject → Bool
 isBlankSubject sub = eqb (sub .states) 0 && eqb (sub .initial) 0 && eqb (sub .rows) 0
@@ -91,7 +92,7 @@ subjectOwn n s sub kind = cond (ltb s n) (subjectFits sub kind) (isBlankSubject 
 
 -- the same with its rows
 unfoldable pub subjectValid : ℕ → ℕ → Subject → ℕ → Bool
-subjectValid n s sub kind = subjectOwn n s sub kind && allBelow (rowValid n sub) 8
+subjectValid n s sub kind = subjectOwn n s sub kind && allBelow (rowValid n sub) mostRows
 
 -- ---- all of it
 
@@ -100,10 +101,10 @@ abbrev pub kindAt : List State → ℕ → ℕ
 kindAt states p = getD states p noState .kind
 
 unfoldable pub subjectRight : Model → ℕ → Bool
-subjectRight m s = subjectValid (m .n) s (subjectAt m s) (kindAt (m .states) (s * 32 + subjectAt m s .initial))
+subjectRight m s = subjectValid (m .n) s (subjectAt m s) (kindAt (m .states) (s * mostStates + subjectAt m s .initial))
 
 unfoldable pub stateRight : Model → ℕ → Bool
-stateRight m p = stateValid (m .n) (subjectAt m (p / 32) .states) (p % 32) (stateAt m p)
+stateRight m p = stateValid (m .n) (subjectAt m (p / mostStates) .states) (p % mostStates) (stateAt m p)
 
 -- the start mask names a subject, and none from n up
 abbrev pub startRight : ℕ → ℕ → Bool
@@ -111,21 +112,21 @@ startRight n start = not (eqb start 0) && noneFrom n start
 
 -- how many exits there are in all
 unfoldable pub exitsInAll : Model → ℕ
-exitsInAll m = sumBelow (λ p. stateAt m p .exits) 512
+exitsInAll m = sumBelow (λ p. stateAt m p .exits) statePlaces
 
 unfoldable pub valid : Model → Bool
 valid m =
-    (within 1 (m .n) 16 && startRight (m .n) (m .start))
-    && allBelow (subjectRight m) 16
-    && allBelow (stateRight m) 512
-    && leb (exitsInAll m) 1024
+    (within 1 (m .n) mostSubjects && startRight (m .n) (m .start))
+    && allBelow (subjectRight m) mostSubjects
+    && allBelow (stateRight m) statePlaces
+    && leb (exitsInAll m) mostExitsInAll
 
 -- ---- what the machine can hold
 
 -- arrays of their length and numbers of their width: every Model in the machine is so
 pub record Held (m : Model) : Type 0 where
-  pub subjects : length (m .subjects) ≡ 16
-  pub states : length (m .states) ≡ 512
-  pub rows : (s : ℕ) → s < 16 → length (subjectAt m s .row) ≡ 8
-  pub exits : (p : ℕ) → p < 512 → length (stateAt m p .exit) ≡ 8
-  pub afters : (p : ℕ) → p < 512 → stateAt m p .after < 65536
+  pub subjects : length (m .subjects) ≡ mostSubjects
+  pub states : length (m .states) ≡ statePlaces
+  pub rows : (s : ℕ) → s < mostSubjects → length (subjectAt m s .row) ≡ mostRows
+  pub exits : (p : ℕ) → p < statePlaces → length (stateAt m p .exit) ≡ mostExits
+  pub afters : (p : ℕ) → p < statePlaces → stateAt m p .after < 65536

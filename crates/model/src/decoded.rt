@@ -7,6 +7,7 @@ ghost use Prim.Native.Nat.{ℕ, _+_, _≤_, _<_};
 ghost use lib.Dec.{ltb, leb, eqb};
 ghost use Rattle.sets.specs.Below.{allBelow, sumBelow, table};
 ghost use Rattle.blocks.specs.Blocks.{firstBlock, countOf, recordFrom};
+ghost use Rattle.model.specs.Sizes.{mostSubjects, statePlaces, mostRows};
 ghost use Rattle.model.specs.Records.{blankExit, blankRow, blankState, blankSubject, stateKey, exitOf, rowOf};
 ghost use Rattle.model.specs.Decoded.{subjectsIn, limitsIn, rowsIn, rowsFrom, subjectIn, exitsFrom, stateIn, modelOf, exitsNamed, ownerThere, statesInPlace, exitsInPlace, limitsInPlace, inPlace, stateFrom};
 use super::Exit;
@@ -15,6 +16,11 @@ use super::Row;
 use super::State;
 use super::Subject;
 use super::records;
+use super::sizes::MOST_EXITS;
+use super::sizes::MOST_ROWS;
+use super::sizes::MOST_STATES;
+use super::sizes::MOST_SUBJECTS;
+use super::sizes::STATE_PLACES;
 use blocks::record;
 use blocks::record_from;
 use sets::byte;
@@ -51,7 +57,7 @@ fn rows_in(file: &[u8], first: usize, count: usize, s: usize) -> u8
     ensures { λ r. ⌜ r ≡ rowsIn (now (file .entry)) s ⌝ }
 {
     let found = limits_in(file, first, count, s);
-    if found < 8 {
+    if found < MOST_ROWS {
         return found as u8;
     }
     8
@@ -73,13 +79,13 @@ fn row_from(file: &[u8], first: usize, place: usize, rows: u8, k: usize) -> Row
 }
 
 // The rows that start at the given place.
-fn rows_from(file: &[u8], first: usize, place: usize, rows: u8) -> [Row; 8]
+fn rows_from(file: &[u8], first: usize, place: usize, rows: u8) -> [Row; MOST_ROWS]
     requires { ⌜ place ≤ 65536 ⌝ }
     ensures { λ r. ⌜ r ≡ rowsFrom (now (file .entry)) first place rows ⌝ }
 {
     let mut row = records::no_rows();
     let mut k = 0;
-    while k < 8 {
+    while k < MOST_ROWS {
         row[k] = row_from(file, first, place, rows, k);
         k += 1;
     }
@@ -88,7 +94,7 @@ fn rows_from(file: &[u8], first: usize, place: usize, rows: u8) -> [Row; 8]
 
 // Subject s of n, with the rows that start at the given place.
 fn subject(file: &[u8], n: u8, s: usize, rows: u8, first: usize, place: usize) -> Subject
-    requires { ⌜ (n ≡ subjectsIn (now file)) × (s < 16) × (rows ≡ rowsIn (now file) s) × (first ≡ firstBlock (now file) 4) × (place ≡ sumBelow (rowsIn (now file)) s) × (place ≤ 65536) ⌝ }
+    requires { ⌜ (n ≡ subjectsIn (now file)) × (s < mostSubjects) × (rows ≡ rowsIn (now file) s) × (first ≡ firstBlock (now file) 4) × (place ≡ sumBelow (rowsIn (now file)) s) × (place ≤ 65536) ⌝ }
     ensures { λ r. ⌜ r ≡ subjectIn (now (file .entry)) s ⌝ }
 {
     if s < n as usize {
@@ -117,17 +123,17 @@ pub(crate) fn no_subject() -> Subject
 }
 
 // All subjects.
-fn subjects(file: &[u8]) -> [Subject; 16]
-    ensures { λ r. ⌜ r ≡ table (subjectIn (now (file .entry))) 16 ⌝ }
+fn subjects(file: &[u8]) -> [Subject; MOST_SUBJECTS]
+    ensures { λ r. ⌜ r ≡ table (subjectIn (now (file .entry))) mostSubjects ⌝ }
 {
     let first = blocks::first_block(file, 4);
     let count = blocks::count_of(file, 4);
     let n = byte(record(file, 0, 0), 0);
     let none = no_subject();
-    let mut subjects = [none; 16];
+    let mut subjects = [none; MOST_SUBJECTS];
     let mut place: usize = 0;
     let mut s = 0;
-    while s < 16 {
+    while s < MOST_SUBJECTS {
         let rows = rows_in(file, first, count, s);
         subjects[s] = subject(file, n, s, rows, first, place);
         place += rows as usize;
@@ -154,13 +160,13 @@ fn exit_from(file: &[u8], first: usize, place: usize, exits: u8, x: usize) -> Ex
 }
 
 // The exits that start at the given place.
-fn exits_from(file: &[u8], first: usize, place: usize, exits: u8) -> [Exit; 8]
+fn exits_from(file: &[u8], first: usize, place: usize, exits: u8) -> [Exit; MOST_EXITS]
     requires { ⌜ place ≤ 1000000 ⌝ }
     ensures { λ r. ⌜ r ≡ exitsFrom (now (file .entry)) first place exits ⌝ }
 {
     let mut exit = records::no_exits();
     let mut x = 0;
-    while x < 8 {
+    while x < MOST_EXITS {
         exit[x] = exit_from(file, first, place, exits, x);
         x += 1;
     }
@@ -217,20 +223,20 @@ fn next_start(start: usize, t: usize, states: u8) -> usize
 }
 
 // All states, of the subjects of the file.
-fn states(file: &[u8], subjects: [Subject; 16]) -> [State; 512]
-    requires { ⌜ subjects ≡ table (subjectIn (now file)) 16 ⌝ }
-    ensures { λ r. ⌜ r ≡ table (stateIn (now (file .entry))) 512 ⌝ }
+fn states(file: &[u8], subjects: [Subject; MOST_SUBJECTS]) -> [State; STATE_PLACES]
+    requires { ⌜ subjects ≡ table (subjectIn (now file)) mostSubjects ⌝ }
+    ensures { λ r. ⌜ r ≡ table (stateIn (now (file .entry))) statePlaces ⌝ }
 {
     let first = blocks::first_block(file, 2);
     let next = blocks::first_block(file, 3);
     let none = no_state();
-    let mut states = [none; 512];
+    let mut states = [none; STATE_PLACES];
     let mut start: usize = 0;
     let mut place: usize = 0;
     let mut p = 0;
-    while p < 512 {
-        let t = p % 32;
-        let s = p / 32;
+    while p < STATE_PLACES {
+        let t = p % MOST_STATES;
+        let s = p / MOST_STATES;
         let own = subjects[s].states;
         let st = state_or_none(file, t < own as usize, first, start + t, next, place);
         place += st.exits as usize;
@@ -269,16 +275,16 @@ fn state_named(file: &[u8], has: bool, first: usize, j: usize, key: usize) -> bo
 }
 
 // The state records are those of the subjects' states, in order, and no more.
-fn states_in_place(file: &[u8], subjects: [Subject; 16]) -> bool
-    requires { ⌜ subjects ≡ table (subjectIn (now file)) 16 ⌝ }
+fn states_in_place(file: &[u8], subjects: [Subject; MOST_SUBJECTS]) -> bool
+    requires { ⌜ subjects ≡ table (subjectIn (now file)) mostSubjects ⌝ }
     ensures { λ r. ⌜ r ≡ statesInPlace (now (file .entry)) ⌝ }
 {
     let first = blocks::first_block(file, 2);
     let mut start: usize = 0;
     let mut p = 0;
-    while p < 512 {
-        let t = p % 32;
-        let s = p / 32;
+    while p < STATE_PLACES {
+        let t = p % MOST_STATES;
+        let s = p / MOST_STATES;
         let own = subjects[s].states;
         if !state_named(file, t < own as usize, first, start + t, t + 256 * s) {
             return false;
@@ -306,16 +312,16 @@ fn exits_named(file: &[u8], first: usize, place: usize, exits: u8, key: u32) -> 
 }
 
 // The exit records are those of the states' exits, in order, and no more.
-fn exits_in_place(file: &[u8], states: [State; 512]) -> bool
-    requires { ⌜ states ≡ table (stateIn (now file)) 512 ⌝ }
+fn exits_in_place(file: &[u8], states: [State; STATE_PLACES]) -> bool
+    requires { ⌜ states ≡ table (stateIn (now file)) statePlaces ⌝ }
     ensures { λ r. ⌜ r ≡ exitsInPlace (now (file .entry)) ⌝ }
 {
     let first = blocks::first_block(file, 3);
     let mut place: usize = 0;
     let mut p = 0;
-    while p < 512 {
+    while p < STATE_PLACES {
         let exits = states[p].exits;
-        let key = (p % 32 + 256 * (p / 32)) as u32;
+        let key = (p % MOST_STATES + 256 * (p / MOST_STATES)) as u32;
         if !exits_named(file, first, place, exits, key) {
             return false;
         }
@@ -344,11 +350,11 @@ fn owners_there(file: &[u8], first: usize, count: usize, n: u8) -> bool
 // No owner has more than 8 limit records.
 fn limits_few(file: &[u8], first: usize, count: usize) -> bool
     requires { ⌜ (first ≡ firstBlock (now file) 4) × (count ≡ countOf (now file) 4) ⌝ }
-    ensures { λ r. ⌜ r ≡ allBelow (λ s. leb (limitsIn (now (file .entry)) s) 8) 16 ⌝ }
+    ensures { λ r. ⌜ r ≡ allBelow (λ s. leb (limitsIn (now (file .entry)) s) mostRows) mostSubjects ⌝ }
 {
     let mut s = 0;
-    while s < 16 {
-        if 8 < limits_in(file, first, count, s) {
+    while s < MOST_SUBJECTS {
+        if MOST_ROWS < limits_in(file, first, count, s) {
             return false;
         }
         s += 1;

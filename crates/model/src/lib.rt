@@ -3,6 +3,7 @@ mod decoded;
 mod loading;
 mod records;
 mod rules;
+mod sizes;
 mod stages;
 mod valid;
 
@@ -12,6 +13,11 @@ pub use blocks::place;
 pub use blocks::record;
 pub use blocks::refusal;
 pub use loading::load;
+pub use sizes::MOST_EXITS;
+pub use sizes::MOST_ROWS;
+pub use sizes::MOST_STATES;
+pub use sizes::MOST_SUBJECTS;
+pub use sizes::STATE_PLACES;
 pub use valid::is_valid;
 
 // An exit of a state: where it leads; of a receive the sender and the type, of a send the type.
@@ -38,7 +44,7 @@ pub struct State {
     pub timeout: u8,
     pub cancel: u8,
     pub receivers: u16,
-    pub exit: [Exit; 8],
+    pub exit: [Exit; MOST_EXITS],
 }
 
 // A subject: how many states it has, the initial one, the number of its limit rows, and the rows.
@@ -46,15 +52,15 @@ pub struct Subject {
     pub states: u8,
     pub initial: u8,
     pub rows: u8,
-    pub row: [Row; 8],
+    pub row: [Row; MOST_ROWS],
 }
 
-// A model of n subjects: state t of subject s is at place s * 32 + t. Unused room is zero.
+// A model of n subjects: state t of subject s is at place s * MOST_STATES + t. Unused room is zero.
 pub struct Model {
     pub n: u8,
     pub start: u16,
-    pub subjects: [Subject; 16],
-    pub states: [State; 512],
+    pub subjects: [Subject; MOST_SUBJECTS],
+    pub states: [State; STATE_PLACES],
 }
 
 // What the kind of a state allows.

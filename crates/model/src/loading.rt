@@ -4,6 +4,8 @@ ghost use Rattle.model.specs.Loading.{emptyModel, refused, acrossOr, loa
 use super::Loaded;
 use super::Model;
 use super::decoded;
+use super::sizes::MOST_SUBJECTS;
+use super::sizes::STATE_PLACES;
 use super::stages;
 use super::valid;
 use blocks::Verdict;
@@ -18,8 +20,8 @@ fn empty() -> Model
     Model {
         n: 0,
         start: 0,
-        subjects: [subject; 16],
-        states: [state; 512],
+        subjects: [subject; MOST_SUBJECTS],
+        states: [state; STATE_PLACES],
     }
 }
 

@@ -5,11 +5,13 @@ ghost use Rattle.model.specs.Records.{blankExits, blankRows, stateOf, ex
 use super::Exit;
 use super::Row;
 use super::State;
+use super::sizes::MOST_EXITS;
+use super::sizes::MOST_ROWS;
 use sets::byte;
 use sets::word;
 
 // No exits.
-pub(crate) fn no_exits() -> [Exit; 8]
+pub(crate) fn no_exits() -> [Exit; MOST_EXITS]
     ensures { λ r. ⌜ r ≡ blankExits ⌝ }
 {
     let none = Exit {
@@ -17,11 +19,11 @@ pub(crate) fn no_exits() -> [Exit; 8]
         sender: 0,
         typ: 0,
     };
-    [none; 8]
+    [none; MOST_EXITS]
 }
 
 // No limit rows.
-pub(crate) fn no_rows() -> [Row; 8]
+pub(crate) fn no_rows() -> [Row; MOST_ROWS]
     ensures { λ r. ⌜ r ≡ blankRows ⌝ }
 {
     let none = Row {
@@ -29,11 +31,11 @@ pub(crate) fn no_rows() -> [Row; 8]
         typ: 0,
         limit: 0,
     };
-    [none; 8]
+    [none; MOST_ROWS]
 }
 
 // The state of a state record, with the given exits.
-pub(crate) fn state_of(r: &[u8], exit: [Exit; 8]) -> State
+pub(crate) fn state_of(r: &[u8], exit: [Exit; MOST_EXITS]) -> State
     ensures { λ s. ⌜ s ≡ stateOf (now (r .entry)) exit ⌝ }
 {
     State {

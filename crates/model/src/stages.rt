@@ -7,6 +7,7 @@ ghost use Rattle.blocks.specs.Blocks.{blocks, blockOf, checkRight, kindOf, firs
 ghost use Rattle.model.specs.Stages.{lengthRight, kindRight, fullRight, blockRight, recordBefore, Kinds, headerRight, exitRight, limitRight, fieldsRight, recordRight, recordsRight};
 use super::records;
 use super::rules;
+use super::sizes::MOST_BLOCKS;
 use blocks::block;
 use blocks::record;
 use sets::Found;
@@ -21,7 +22,7 @@ pub(crate) fn length_right(file: &[u8]) -> bool
     ensures { λ r. ⌜ r ≡ lengthRight (now (file .entry)) ⌝ }
 {
     let n = file.len() / 512;
-    both(file.len() % 512 == 0, both(1 <= n, n <= 43))
+    both(file.len() % 512 == 0, both(1 <= n, n <= MOST_BLOCKS))
 }
 
 // The first block whose check is wrong.

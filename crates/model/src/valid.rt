@@ -2,12 +2,19 @@
 ghost use mathlib.Core.Path.{_≡_};
 ghost use Prim.Native.Nat.{_<_};
 ghost use Rattle.sets.specs.Below.{allBelow};
+ghost use Rattle.model.specs.Sizes.{mostSubjects, statePlaces, mostExits, mostRows};
 ghost use Rattle.model.specs.Valid.{isBlankState, exitValid, stateValid, rowKey, rowAscends, rowValid, stateOwn, subjectOwn, subjectValid, kindAt, subjectRight, stateRight, startRight, exitsInAll, valid};
 use super::Model;
 use super::Row;
 use super::State;
 use super::Subject;
 use super::rules;
+use super::sizes::MOST_EXITS;
+use super::sizes::MOST_EXITS_IN_ALL;
+use super::sizes::MOST_ROWS;
+use super::sizes::MOST_STATES;
+use super::sizes::MOST_SUBJECTS;
+use super::sizes::STATE_PLACES;
 use sets::both;
 
 // Nothing but zeros, the exits aside.
@@ -27,7 +34,7 @@ fn is_blank_state(st: State) -> bool
 
 // Exit x of a state: right if the state has it, else blank.
 fn exit_valid(n: u8, states: u8, st: State, x: usize) -> bool
-    requires { ⌜ x < 8 ⌝ }
+    requires { ⌜ x < mostExits ⌝ }
     ensures { λ r. ⌜ r ≡ exitValid n states st x ⌝ }
 {
     let e = st.exit[x];
@@ -58,7 +65,7 @@ fn state_valid(n: u8, states: u8, t: u8, st: State) -> bool
         return false;
     }
     let mut x = 0;
-    while x < 8 {
+    while x < MOST_EXITS {
         if !exit_valid(n, states, st, x) {
             return false;
         }
@@ -76,7 +83,7 @@ fn row_key(w: Row) -> u16
 
 // Row k of a subject comes after the row before it.
 fn row_ascends(sub: Subject, k: usize) -> bool
-    requires { ⌜ k < 8 ⌝ }
+    requires { ⌜ k < mostRows ⌝ }
     ensures { λ r. ⌜ r ≡ rowAscends sub k ⌝ }
 {
     if k == 0 {
@@ -89,7 +96,7 @@ fn row_ascends(sub: Subject, k: usize) -> bool
 
 // Row k of a subject: right if the subject has it, else blank.
 fn row_valid(n: u8, sub: Subject, k: usize) -> bool
-    requires { ⌜ k < 8 ⌝ }
+    requires { ⌜ k < mostRows ⌝ }
     ensures { λ r. ⌜ r ≡ rowValid n sub k ⌝ }
 {
     let w = sub.row[k];
@@ -119,7 +126,7 @@ fn subject_valid(n: u8, s: u8, sub: Subject, kind: u8) -> bool
         return false;
     }
     let mut k = 0;
-    while k < 8 {
+    while k < MOST_ROWS {
         if !row_valid(n, sub, k) {
             return false;
         }
@@ -129,10 +136,10 @@ fn subject_valid(n: u8, s: u8, sub: Subject, kind: u8) -> bool
 }
 
 // The kind of the state at place p; 0 past the last place.
-fn kind_at(states: [State; 512], p: usize) -> u8
+fn kind_at(states: [State; STATE_PLACES], p: usize) -> u8
     ensures { λ r. ⌜ r ≡ kindAt states p ⌝ }
 {
-    if p < 512 {
+    if p < STATE_PLACES {
         return states[p].kind;
     }
     0
@@ -140,14 +147,14 @@ fn kind_at(states: [State; 512], p: usize) -> u8
 
 // Every subject is right.
 fn subjects_right(m: Model) -> bool
-    ensures { λ r. ⌜ r ≡ allBelow (subjectRight m) 16 ⌝ }
+    ensures { λ r. ⌜ r ≡ allBelow (subjectRight m) mostSubjects ⌝ }
 {
     let n = m.n;
     let states = m.states;
     let mut s: usize = 0;
-    while s < 16 {
+    while s < MOST_SUBJECTS {
         let sub = m.subjects[s];
-        let kind = kind_at(states, s * 32 + sub.initial as usize);
+        let kind = kind_at(states, s * MOST_STATES + sub.initial as usize);
         if !subject_valid(n, s as u8, sub, kind) {
             return false;
         }
@@ -158,15 +165,15 @@ fn subjects_right(m: Model) -> bool
 
 // Every state is right.
 fn states_right(m: Model) -> bool
-    ensures { λ r. ⌜ r ≡ allBelow (stateRight m) 512 ⌝ }
+    ensures { λ r. ⌜ r ≡ allBelow (stateRight m) statePlaces ⌝ }
 {
     let n = m.n;
     let mut p: usize = 0;
-    while p < 512 {
-        let s = p / 32;
+    while p < STATE_PLACES {
+        let s = p / MOST_STATES;
         let own = m.subjects[s].states;
         let st = m.states[p];
-        if !state_valid(n, own, (p % 32) as u8, st) {
+        if !state_valid(n, own, (p % MOST_STATES) as u8, st) {
             return false;
         }
         p += 1;
@@ -180,7 +187,7 @@ fn exits_in_all(m: Model) -> usize
 {
     let mut exits: usize = 0;
     let mut p = 0;
-    while p < 512 {
+    while p < STATE_PLACES {
         exits += m.states[p].exits as usize;
         p += 1;
     }
@@ -208,5 +215,5 @@ pub fn is_valid(m: Model) -> bool
     if !states_right(m) {
         return false;
     }
-    exits_in_all(m) <= 1024
+    exits_in_all(m) <= MOST_EXITS_IN_ALL
 }

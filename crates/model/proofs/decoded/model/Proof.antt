@@ -5,7 +5,10 @@ use Rattle.model.proofs.decoded.model.Tie as tie
 
 returns : tie.Need-returns
 unfolding modelOf
-returns c = cc
+returns c =
+    let n = c .before .before .before in
+    let states = n .before in
+    rw (c .word .ensures, c .before .byte3 .ensures, c .before .before .byte2 .ensures, n .byte .ensures, states .states .ensures, states .before .subjects .ensures, states .before .before .«record» .ensures)
 
 pub model-spec : {M : Type 1} → statement M
 model-spec =

@@ -5,7 +5,7 @@ use Rattle.model.proofs.decoded.state_from.Tie as tie
 
 returns : tie.Need-returns
 unfolding stateFrom
-returns c = cc
+returns c = rw (c .state-of .ensures, c .before .exits-from .ensures, c .before .before .byte .ensures, c .before .before .before .record-from .ensures)
 
 pub state-from-spec : {M : Type 1} → statement M
 state-from-spec =

@@ -5,7 +5,9 @@ use Rattle.model.proofs.stages.exit_right.Tie as tie
 
 returns : tie.Need-returns
 unfolding exitRight
-returns c = cc
+returns c =
+    let fits = c .before .before .before .before in
+    rw (c .either .ensures, c .before .both .ensures, c .before .before .is-zero .ensures, c .before .before .before .rest .ensures, fits .exit-fits .ensures, fits .before .exit-of .ensures)
 
 pub exit-right-spec : {M : Type 1} → statement M
 exit-right-spec =

@@ -9,7 +9,7 @@ use Rattle.model.proofs.stages.fields_right.Tie as tie
 
 returns : tie.Need-returns
 unfolding fieldsRight
-returns c = rw (eq-eqb _ _ (c .before .before .before .if1 .taken)) (cc)
+returns c = rw (eq-eqb _ _ (c .before .before .before .if1 .taken), c .state-fits .ensures, c .before .state-of .ensures, c .before .before .no-exits .ensures)
 
 returns-2 : tie.Need-returns-2
 unfolding fieldsRight
@@ -19,7 +19,7 @@ returns-2 c =
     let start = r .before .before in
     let byte = r .shared-slice-known2 .given in
     let own = start .pre .tells (stateKey (now (start .args .r))) (omega (arith, byte 0, byte 1)) in
-    rw (ne-eqb _ _ (first .if1 .left), eq-eqb _ _ (c .before .before .before .if2 .taken)) (cc own)
+    rw (ne-eqb _ _ (first .if1 .left), eq-eqb _ _ (c .before .before .before .if2 .taken), c .exit-right .ensures, c .before .byte .ensures, c .before .before .state-key .ensures, own)
 
 returns-3 : tie.Need-returns-3
 unfolding fieldsRight

@@ -5,7 +5,7 @@ use Rattle.model.proofs.stages.full_right.Tie as tie
 
 returns : tie.Need-returns
 unfolding fullRight
-returns c = cc
+returns c = c .either .ensures
 
 pub full-right-spec : {M : Type 1} → statement M
 full-right-spec = tie.close (tie.spec (λ c κs. search needs) returns)

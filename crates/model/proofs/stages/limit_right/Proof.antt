@@ -5,7 +5,7 @@ use Rattle.model.proofs.stages.limit_right.Tie as tie
 
 returns : tie.Need-returns
 unfolding limitRight
-returns c = cc
+returns c = rw (c .both .ensures, c .before .is-zero .ensures, c .before .before .rest .ensures, c .before .before .before .row-fits .ensures, c .before .before .before .before .row-of .ensures)
 
 pub limit-right-spec : {M : Type 1} → statement M
 limit-right-spec =

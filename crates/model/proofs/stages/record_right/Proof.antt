@@ -10,7 +10,7 @@ returns c =
     let test = c .before .before in
     let byte = test .before .before in
     let kind = rw (byte .before .block .ensures) at (byte .byte .ensures) in
-    rw (eq-eqb _ _ (rw kind at (test .if1 .taken))) (cc)
+    rw (eq-eqb _ _ (rw kind at (test .if1 .taken)), c .header-right .ensures, c .before .byte2 .ensures, test .before .«record» .ensures, byte .before .block .ensures)
 
 returns-2 : tie.Need-returns-2
 unfolding recordRight
@@ -18,7 +18,7 @@ returns-2 c =
     let test = c .before .before .before .before .before in
     let byte = test .before .before in
     let kind = rw (byte .before .block .ensures) at (byte .byte .ensures) in
-    rw (ne-eqb _ _ (rw kind at (test .if1 .left))) (cc)
+    rw (ne-eqb _ _ (rw kind at (test .if1 .left)), c .both .ensures, c .before .fields-right .ensures, c .before .before .order2 .ensures, c .before .before .before .order .ensures, c .before .before .before .before .record-before .ensures, test .before .«record» .ensures, kind)
 
 pub record-right-spec : {M : Type 1} → statement M
 record-right-spec =

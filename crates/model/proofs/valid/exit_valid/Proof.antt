@@ -6,11 +6,11 @@ use Rattle.model.proofs.valid.exit_valid.Tie as tie
 
 returns : tie.Need-returns
 unfolding exitValid
-returns c = rw (lt-ltb _ _ (c .before .before .before .if1 .taken)) (cc)
+returns c = rw (lt-ltb _ _ (c .before .before .before .if1 .taken), c .both .ensures, c .before .before .exit-fits .ensures, c .before .exit-reaches .ensures)
 
 returns-2 : tie.Need-returns-2
 unfolding exitValid
-returns-2 c = rw (le-ltb _ _ (c .before .before .before .before .before .if1 .left)) (cc)
+returns-2 c = rw (le-ltb _ _ (c .before .before .before .before .before .if1 .left), c .both3 .ensures, c .before .before .both2 .ensures)
 
 pub exit-valid-spec : {M : Type 1} → statement M
 exit-valid-spec =

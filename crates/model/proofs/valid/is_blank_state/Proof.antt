@@ -5,7 +5,10 @@ use Rattle.model.proofs.valid.is_blank_state.Tie as tie
 
 returns : tie.Need-returns
 unfolding isBlankState
-returns c = cc
+returns c =
+    let b = c .before .before .before .before .before in
+    let a = b .before .before .before in
+    rw (c .both7 .ensures, c .before .both6 .ensures, c .before .before .before .both5 .ensures, b .both4 .ensures, a .both3 .ensures, a .before .before .both2 .ensures, a .before .before .before .before .both .ensures)
 
 pub is-blank-state-spec : {M : Type 1} → statement M
 is-blank-state-spec =

@@ -14,7 +14,7 @@ abbrev head : Model → Bool
 head m = within 1 (m .n) 16 && startRight (m .n) (m .start)
 
 told : (c : tie.After-both) → head (c .before .before .before .args .m) ≡ c .both .result
-told c = cc
+told c = sym (rw (c .both .ensures, c .before .before .is-within .ensures, c .before .start-right .ensures))
 
 kept : (c : tie.Else2) → (head (c .before .before .before .before .before .before .args .m) && allBelow (subjectRight (c .before .before .before .before .before .before .args .m)) 16) ≡ true
 kept c =

@@ -7,7 +7,7 @@ returns : tie.Need-returns
 returns c = rw (eq-eqb _ _ (c .if1 .taken))
 
 returns-2 : tie.Need-returns-2
-returns-2 c = rw (ne-eqb _ _ (c .before .before .before .before .if1 .left)) (cc)
+returns-2 c = rw (ne-eqb _ _ (c .before .before .before .before .if1 .left), c .before .row-key .ensures, c .row-key2 .ensures)
 
 pub row-ascends-spec : {M : Type 1} → statement M
 row-ascends-spec =

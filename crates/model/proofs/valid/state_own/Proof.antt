@@ -6,7 +6,7 @@ use Rattle.model.proofs.valid.state_own.Tie as tie
 
 returns : tie.Need-returns
 unfolding stateOwn
-returns c = rw (lt-ltb _ _ (c .before .before .before .if1 .taken)) (cc)
+returns c = rw (lt-ltb _ _ (c .before .before .before .if1 .taken), c .both .ensures, c .before .before .state-fits .ensures, c .before .state-reaches .ensures)
 
 returns-2 : tie.Need-returns-2
 unfolding stateOwn

@@ -9,3 +9,7 @@ pub mod Right
 pub mod Loads
 pub mod One
 pub mod Worked
+pub mod Ordered
+pub mod Stacked
+pub mod Shown
+pub mod Five

@@ -158,7 +158,7 @@ record-in-bytes : (block : List ℕ) (i : ℕ) → Bytes block → Bytes (record
 unfolding recordIn
 record-in-bytes block i h = choose Bytes (ltb i (usedIn block) && ltb i 42) (λ _. take-bytes 12 (drop-bytes (4 + i * 12) h)) (λ _. none)
 
-record-bytes : (file : List ℕ) (first j : ℕ) → Bytes file → Bytes (recordFrom file first j)
+pub record-bytes : (file : List ℕ) (first j : ℕ) → Bytes file → Bytes (recordFrom file first j)
 unfolding recordFrom recordOf
 record-bytes file first j h = record-in-bytes (blockOf file (first + j / 42)) (j % 42) (block-bytes file (first + j / 42) h)
 

@@ -79,7 +79,7 @@ none-order k = refl
 
 -- ---- the kind of an exit's own state
 
-kind-found : (file : List ℕ) (key n j : ℕ) → j < n → stateKey (recordNo file 2 j) ≡ key
+pub kind-found : (file : List ℕ) (key n j : ℕ) → j < n → stateKey (recordNo file 2 j) ≡ key
     → ((i : ℕ) → i < n → stateKey (recordNo file 2 i) ≡ key → i ≡ j) → kindAmong file key n ≡ getD (recordNo file 2 j) 2 0
 unfolding kindAmong
 kind-found file key zero j l e one = absurd (omega arith)
@@ -93,7 +93,7 @@ kind-found file key (suc n) j l e one = go (λ k. kind-found file key n j k e (�
         rw f (ih (omega arith))
 
 -- a key tells subject and state
-key-apart : (s t g k : ℕ) → t < 256 → k < 256 → k + 256 * g ≡ t + 256 * s → (g ≡ s) × (k ≡ t)
+pub key-apart : (s t g k : ℕ) → t < 256 → k < 256 → k + 256 * g ≡ t + 256 * s → (g ≡ s) × (k ≡ t)
 key-apart s t g k lt lk e = (omega arith, omega arith)
 
 -- a row that is not the first comes after the one before it

@@ -1,0 +1,324 @@
+-- A file that passes stages 1, 3 and 4, and whose records stand in place: every rule that one record shows holds in its model.
+use mathlib.Core.Path.{_≡_, refl, sym, ap, _∙_}
+use mathlib.Core.Bool.{true, _&&_, _||_}
+use mathlib.Core.List.{List}
+use Prim.Native.Nat.{ℕ, zero, suc, _+_, _-_, _*_, _/_, _%_, _≤_, _<_}
+use native.Mathlib.Omega.{arith}
+use borrow.Author.Tests.{ltb-true, ltb-false, lt-ltb, le-ltb, leb-true, eqb-true, ne-eqb}
+use lib.Dec.{ltb, leb, eqb}
+use lib.ListN.{getD, getD-replicate}
+use Rattle.sets.specs.Below.{allBelow, sumBelow}
+use Rattle.sets.specs.Groups.{placeIn, inPlaces}
+use Rattle.sets.specs.Tests.{within}
+use Rattle.sets.proofs.Tests.{Within, within-is, and-both, choose}
+use Rattle.sets.proofs.Below.{all-each, table-at, sum-has, sum-same}
+use Rattle.sets.proofs.Groups.{in-places-at, spot}
+use Rattle.blocks.specs.Blocks.{firstBlock, recordNo, countOf}
+use Rattle.model.specs.Decoded.{subjectsIn, limitsIn, rowsIn, rowsFrom, subjectIn, statesIn, hasState, stateRecordIn, exitsIn, exitsFrom, stateFrom, stateIn, modelOf, stateNamed, exitsNamed, exitsNamedIn, ownerThere, statesInPlace, exitsInPlace, limitsInPlace, inPlace}
+use Rattle.model.specs.Records.{blankExit, blankExits, blankRow, stateOf, exitOf, rowOf, stateKey, fullKey}
+use Rattle.model.specs.Rules.{shapeOf, stateFits, exitFits, rowFits}
+use Rattle.model.specs.Stages.{ownKind, exitRight, limitRight, fieldsRight}
+use Rattle.model.specs.Valid.{noState, noSubject, subjectAt, stateAt, exitAt, rowAt, isBlankExit, isBlankRow, isBlankState, rowKey, rowAscends, isBlankSubject}
+use Rattle.model.specs.declared.Exit.{Exit}
+use Rattle.model.specs.declared.Model.{Model}
+use Rattle.model.specs.declared.Row.{Row}
+use Rattle.model.specs.declared.State.{State}
+use Rattle.model.specs.declared.Subject.{Subject}
+use Rattle.model_promises.specs.Loads.{AreBytes, Passes1, Passes3, Passes4}
+use Rattle.model_promises.proofs.Loads.{record-bytes}
+use Rattle.model_promises.proofs.Ordered.{own-place}
+use Rattle.model_promises.proofs.Pieces.{byte-at, bytes-by}
+use Rattle.model_promises.proofs.Right.{kind-found, key-apart}
+use Rattle.model_promises.proofs.Stacked.{subjects-within, states-within, fields-right, keys-climb}
+
+-- ---- what one record shows
+
+pub record ShownSubject (n s : ℕ) (sub : Subject) : Type 0 where
+  pub states : s < n → Within 1 (sub .states) 32
+  pub rows : sub .rows ≤ 8
+  pub gone : n ≤ s → isBlankSubject sub ≡ true
+  pub row : (k : ℕ) → k < sub .rows → rowFits (rowAt sub k) ≡ true
+  pub ascends : (k : ℕ) → k < sub .rows → rowAscends sub k ≡ true
+  pub blank : (k : ℕ) → k < 8 → sub .rows ≤ k → isBlankRow (rowAt sub k) ≡ true
+
+pub record ShownState (states t : ℕ) (st : State) : Type 0 where
+  pub fits : t < states → stateFits st ≡ true
+  pub gone : states ≤ t → isBlankState st ≡ true
+  pub exit : (x : ℕ) → x < 8 → x < st .exits → exitFits (st .kind) (exitAt st x) ≡ true
+  pub blank : (x : ℕ) → x < 8 → st .exits ≤ x → isBlankExit (exitAt st x) ≡ true
+
+pub record Shown (m : Model) : Type 0 where
+  pub subjects : Within 1 (m .n) 16
+  pub subject : (s : ℕ) → s < 16 → ShownSubject (m .n) s (subjectAt m s)
+  pub state : (p : ℕ) → p < 512 → ShownState (subjectAt m (p / 32) .states) (p % 32) (stateAt m p)
+
+-- ---- a group in its places
+
+module _ {A : Type 0} (size : ℕ) (blank : A) (count : ℕ) (nth : ℕ → A) (i : ℕ) (l : i < size) where
+  in-there : i < count → getD (inPlaces size blank count nth) i blank ≡ nth i
+  in-there h = in-places-at size blank count nth i blank l ∙ rw (lt-ltb i count h)
+
+  in-gone : count ≤ i → getD (inPlaces size blank count nth) i blank ≡ blank
+  in-gone h = in-places-at size blank count nth i blank l ∙ rw (le-ltb i count h)
+
+-- ---- records in place
+
+-- what inPlace says, part by part
+record Placed (file : List ℕ) : Type 0 where
+  named : (p : ℕ) → p < 512 → stateNamed file p ≡ true
+  states : countOf file 2 ≡ sumBelow (statesIn file) 16
+  exits-named : (p : ℕ) → p < 512 → exitsNamedIn file p ≡ true
+  exits : countOf file 3 ≡ sumBelow (exitsIn file) 512
+  few : (s : ℕ) → s < 16 → limitsIn file s ≤ 8
+
+placed : (file : List ℕ) → inPlace file ≡ true → Placed file
+unfolding inPlace statesInPlace exitsInPlace limitsInPlace
+placed file h =
+    let c = and-both (statesInPlace file && exitsInPlace file) (limitsInPlace file) h in
+    let d = and-both (statesInPlace file) (exitsInPlace file) (c .left) in
+    let s = and-both (allBelow (stateNamed file) 512) (eqb (countOf file 2) (sumBelow (statesIn file) 16)) (d .left) in
+    let x = and-both (allBelow (exitsNamedIn file) 512) (eqb (countOf file 3) (sumBelow (exitsIn file) 512)) (d .right) in
+    let l = and-both (allBelow (ownerThere file) (countOf file 4)) (allBelow (λ s. leb (limitsIn file s) 8) 16) (c .right) in
+    record {
+      named = all-each (stateNamed file) 512 (s .left);
+      states = eqb-true (countOf file 2) (sumBelow (statesIn file) 16) (s .right);
+      exits-named = all-each (exitsNamedIn file) 512 (x .left);
+      exits = eqb-true (countOf file 3) (sumBelow (exitsIn file) 512) (x .right);
+      few = λ s k. leb-true (limitsIn file s) 8 (all-each (λ s. leb (limitsIn file s) 8) 16 (l .right) s k);
+    }
+
+-- ---- what the fields of a record say
+
+-- the exits of a state are no matter to the rule for its fields
+any-exits : (r : List ℕ) (es : List Exit) → stateFits (stateOf r blankExits) ≡ true → stateFits (stateOf r es) ≡ true
+unfolding stateFits stateOf
+any-exits r es h = h
+
+-- kind 0 has room for no number of exits
+no-room : (exits : ℕ) → within (shapeOf 0 .least) exits (shapeOf 0 .most) ≡ true → ⊥
+unfolding shapeOf
+no-room exits h = let w = within-is 1 exits 0 h in omega (arith, w .low, w .high)
+
+kind-some : (st : State) → stateFits st ≡ true → st .kind ≡ 0 → ⊥
+unfolding stateFits
+kind-some st h e =
+    let d = and-both _ _ h in
+    let c = and-both _ _ (d .left) in
+    let b = and-both _ _ (c .left) in
+    let a = and-both (within (shapeOf (st .kind) .least) (st .exits) (shapeOf (st .kind) .most)) _ (b .left) in
+    no-room (st .exits) (rw e at (a .left))
+
+row-right : (file r : List ℕ) → fieldsRight file 4 r ≡ true → rowFits (rowOf r) ≡ true
+unfolding fieldsRight limitRight
+row-right file r h = and-both (rowFits (rowOf r)) _ h .left
+
+-- of one owner, sender and type ascend where all of the key does
+row-after : (r t : List ℕ) → getD r 0 0 ≡ getD t 0 0 → fullKey r < fullKey t → ltb (rowKey (rowOf r)) (rowKey (rowOf t)) ≡ true
+unfolding rowOf
+row-after r t e h = lt-ltb (getD r 2 0 + 256 * getD r 1 0) (getD t 2 0 + 256 * getD t 1 0) (omega arith)
+
+state-right : (file r : List ℕ) → fieldsRight file 2 r ≡ true → stateFits (stateOf r blankExits) ≡ true
+unfolding fieldsRight
+state-right file r h = h
+
+exit-right : (file r : List ℕ) (kind : ℕ) → ownKind file (stateKey r) ≡ kind → (kind ≡ 0 → ⊥) → fieldsRight file 3 r ≡ true → exitFits kind (exitOf r) ≡ true
+unfolding fieldsRight exitRight
+exit-right file r kind e some h = and-both (exitFits kind (exitOf r)) _ (rw (e, ne-eqb kind 0 some) at h) .left
+
+module _ (file : List ℕ) (bytes : AreBytes file) (p1 : Passes1 file) (p3 : Passes3 file) (p4 : Passes4 file) (pl : Placed file) where
+  -- the bytes of a record
+  a-byte : (k j i : ℕ) → getD (recordNo file k j) i 0 < 256
+  a-byte k j = byte-at (record-bytes file (firstBlock file k) j (bytes-by file bytes))
+
+  abbrev n : ℕ
+  n = subjectsIn file
+
+  -- ---- rows
+
+  abbrev owner : ℕ → ℕ
+  owner j = getD (recordNo file 4 j) 0 0
+
+  -- the limit records ascend, so their owners never fall
+  owners-rise : (j : ℕ) → suc j < countOf file 4 → owner j ≤ owner (suc j)
+  owners-rise j l =
+      omega (arith, keys-climb file p1 p3 p4 4 j (omega arith) l, a-byte 4 j 1, a-byte 4 j 2, a-byte 4 (suc j) 1, a-byte 4 (suc j) 2)
+
+  rows-are : (s : ℕ) → s < 16 → rowsIn file s ≡ limitsIn file s
+  unfolding rowsIn
+  rows-are s l = omega (arith, pl .few s l)
+
+  rows-few : (s : ℕ) → rowsIn file s ≤ 8
+  unfolding rowsIn
+  rows-few s = omega arith
+
+  -- the number of the record of row k of subject s
+  abbrev rowNo : ℕ → ℕ → ℕ
+  rowNo s k = placeIn (rowsIn file) s k
+
+  -- that record is there, and its owner is s
+  row-place : (s k : ℕ) → s < 16 → k < rowsIn file s → (rowNo s k < countOf file 4) × (owner (rowNo s k) ≡ s)
+  unfolding limitsIn
+  row-place s k l h =
+      rw (sum-same (rowsIn file) (limitsIn file) s (λ i m. rows-are i (omega arith)))
+      (own-place owner (countOf file 4) owners-rise s k (rw (rows-are s l) at h))
+
+  abbrev rowsAt : ℕ → List Row
+  rowsAt s = rowsFrom file (firstBlock file 4) (sumBelow (rowsIn file) s) (rowsIn file s)
+
+  row-here : (s k : ℕ) → k < rowsIn file s → getD (rowsAt s) k blankRow ≡ rowOf (recordNo file 4 (rowNo s k))
+  unfolding rowsFrom
+  row-here s k h = in-there 8 blankRow (rowsIn file s) _ k (omega (arith, rows-few s)) h
+
+  row-gone : (s k : ℕ) → k < 8 → rowsIn file s ≤ k → getD (rowsAt s) k blankRow ≡ blankRow
+  unfolding rowsFrom
+  row-gone s k l h = in-gone 8 blankRow (rowsIn file s) _ k l h
+
+  row-fits : (s k : ℕ) → s < 16 → k < rowsIn file s → rowFits (getD (rowsAt s) k blankRow) ≡ true
+  row-fits s k l h =
+      rw (row-here s k h) (row-right file (recordNo file 4 (rowNo s k)) (fields-right file p1 p3 p4 4 (rowNo s k) (omega arith) (row-place s k l h .0)))
+
+  row-climbs : (s k : ℕ) → s < 16 → k < rowsIn file s
+      → (eqb k 0 || ltb (rowKey (getD (rowsAt s) (k - 1) blankRow)) (rowKey (getD (rowsAt s) k blankRow))) ≡ true
+  row-climbs s zero l h = refl
+  row-climbs s (suc k) l h =
+      let z : suc k - 1 ≡ k = omega arith in
+      let a : k < rowsIn file s = omega arith in
+      let q : rowNo s (suc k) ≡ suc (rowNo s k) = omega arith in
+      let x = row-place s k l a in
+      let y = row-place s (suc k) l h in
+      let c = keys-climb file p1 p3 p4 4 (rowNo s k) (omega arith) (rw q at (y .0)) in
+      rw (ne-eqb (suc k) 0 (λ e. omega arith), z, row-here s k a, row-here s (suc k) h)
+      (row-after (recordNo file 4 (rowNo s k)) (recordNo file 4 (rowNo s (suc k))) (x .1 ∙ sym (y .1)) (rw q c))
+
+  -- ---- subjects
+
+  subject-shown : (s : ℕ) → s < 16 → ShownSubject n s (subjectIn file s)
+  unfolding subjectIn
+  subject-shown s l =
+      choose (ShownSubject n s) (ltb s n)
+      (λ e.
+      let h = ltb-true s n e in
+      record {
+        states = λ _. states-within file p1 p3 p4 s h;
+        rows = rows-few s;
+        gone = λ g. absurd (omega arith);
+        row = λ k m. row-fits s k l m;
+        ascends = λ k m. row-climbs s k l m;
+        blank = λ k m g. rw (row-gone s k m g);
+      })
+      (λ e.
+      let h = ltb-false s n e in
+      record {
+        states = λ g. absurd (omega arith);
+        rows = omega arith;
+        gone = λ _. refl;
+        row = λ k m. absurd (omega arith);
+        ascends = λ k m. absurd (omega arith);
+        blank = λ k m g. rw (getD-replicate 8 k blankRow blankRow m);
+      })
+
+  states-few : (s : ℕ) → statesIn file s ≤ 32
+  unfolding statesIn subjectIn
+  states-few s =
+      choose (λ (x : Subject). x .states ≤ 32) (ltb s n) (λ e. states-within file p1 p3 p4 s (ltb-true s n e) .high) (λ e. omega arith)
+
+  -- ---- states
+
+  -- the number of the record of state t of subject s
+  abbrev stateNo : ℕ → ℕ → ℕ
+  stateNo s t = placeIn (statesIn file) s t
+
+  state-place : (s t : ℕ) → s < 16 → t < statesIn file s → stateNo s t < countOf file 2
+  state-place s t l h = omega (arith, pl .states, sum-has (statesIn file) s 16 l)
+
+  state-key : (s t : ℕ) → s < 16 → t < statesIn file s → stateKey (recordNo file 2 (stateNo s t)) ≡ t + 256 * s
+  unfolding stateNamed
+  state-key s t l h =
+      let few = states-few s in
+      let a : (s * 32 + t) / 32 ≡ s = omega arith in
+      let b : (s * 32 + t) % 32 ≡ t = omega arith in
+      eqb-true _ _ (rw (a, b, lt-ltb t (statesIn file s) h) at (pl .named (s * 32 + t) (omega arith)))
+
+  -- no other record has the key
+  state-alone : (s t : ℕ) → s < 16 → t < statesIn file s → (i : ℕ) → i < countOf file 2 → stateKey (recordNo file 2 i) ≡ t + 256 * s → i ≡ stateNo s t
+  state-alone s t l h i m e =
+      let a = spot (statesIn file) 16 i (rw (pl .states) at m) in
+      let inside = a .inside in
+      let few = states-few (a .g) in
+      let own = states-few s in
+      let k = sym (state-key (a .g) (a .k) (a .group) (a .inside)) ∙ ap (λ (j : ℕ). stateKey (recordNo file 2 j)) (a .place) ∙ e in
+      let same = key-apart s t (a .g) (a .k) (omega arith) (omega arith) k in
+      sym (a .place) ∙ rw (same .0, same .1)
+
+  -- so the kind of an exit's own state is that of the record in its place
+  own-kind : (s t : ℕ) → s < 16 → t < statesIn file s → ownKind file (t + 256 * s) ≡ getD (recordNo file 2 (stateNo s t)) 2 0
+  own-kind s t l h = kind-found file (t + 256 * s) (countOf file 2) (stateNo s t) (state-place s t l h) (state-key s t l h) (state-alone s t l h)
+
+  state-fits : (s t : ℕ) → s < 16 → t < statesIn file s → (es : List Exit) → stateFits (stateOf (recordNo file 2 (stateNo s t)) es) ≡ true
+  state-fits s t l h es =
+      any-exits _ es (state-right file (recordNo file 2 (stateNo s t)) (fields-right file p1 p3 p4 2 (stateNo s t) (omega arith) (state-place s t l h)))
+
+  kind-not-zero : (s t : ℕ) → s < 16 → t < statesIn file s → getD (recordNo file 2 (stateNo s t)) 2 0 ≡ 0 → ⊥
+  unfolding stateOf
+  kind-not-zero s t l h = kind-some (stateOf (recordNo file 2 (stateNo s t)) blankExits) (state-fits s t l h blankExits)
+
+  -- ---- exits
+
+  -- the number of the record of exit x of the state at place p
+  abbrev exitNo : ℕ → ℕ → ℕ
+  exitNo p x = placeIn (exitsIn file) p x
+
+  exit-place : (p x : ℕ) → p < 512 → x < exitsIn file p → exitNo p x < countOf file 3
+  exit-place p x l h = omega (arith, pl .exits, sum-has (exitsIn file) p 512 l)
+
+  -- that record names the state at place p
+  exit-key : (p x : ℕ) → p < 512 → x < 8 → x < exitsIn file p → stateKey (recordNo file 3 (exitNo p x)) ≡ p % 32 + 256 * (p / 32)
+  unfolding exitsNamedIn exitsNamed
+  exit-key p x l m h =
+      let e = eqb-true (fullKey (recordNo file 3 (exitNo p x))) (x + 256 * (p % 32 + 256 * (p / 32))) (all-each _ (exitsIn file p) (pl .exits-named p l) x h) in
+      key-apart (p % 32 + 256 * (p / 32)) x (stateKey (recordNo file 3 (exitNo p x))) (getD (recordNo file 3 (exitNo p x)) 2 0)
+      (omega arith) (a-byte 3 (exitNo p x) 2) e .0
+
+  exit-fits : (p x : ℕ) → p < 512 → x < 8 → x < exitsIn file p → p % 32 < statesIn file (p / 32)
+      → exitFits (getD (stateRecordIn file p) 2 0) (exitOf (recordNo file 3 (exitNo p x))) ≡ true
+  exit-fits p x l m h has =
+      let s : p / 32 < 16 = omega arith in
+      exit-right file (recordNo file 3 (exitNo p x)) (getD (stateRecordIn file p) 2 0)
+      (ap (ownKind file) (exit-key p x l m h) ∙ own-kind (p / 32) (p % 32) s has) (kind-not-zero (p / 32) (p % 32) s has)
+      (fields-right file p1 p3 p4 3 (exitNo p x) (omega arith) (exit-place p x l h))
+
+  has-exit : (p : ℕ) {x : ℕ} → hasState file p ≡ true → x < getD (stateRecordIn file p) 3 0 → x < exitsIn file p
+  unfolding exitsIn
+  has-exit p e h = rw e h
+
+  state-shown : (p : ℕ) → p < 512 → ShownState (statesIn file (p / 32)) (p % 32) (stateIn file p)
+  unfolding stateIn stateFrom stateOf exitsFrom isBlankState
+  state-shown p l =
+      choose (ShownState (statesIn file (p / 32)) (p % 32)) (hasState file p)
+      (λ e.
+      let h = ltb-true (p % 32) (statesIn file (p / 32)) e in
+      let exits = getD (stateRecordIn file p) 3 0 in
+      record {
+        fits = λ _. state-fits (p / 32) (p % 32) (omega arith) h _;
+        gone = λ g. absurd (omega arith);
+        exit = λ x m g. rw (in-there 8 blankExit exits (λ x. exitOf (recordNo file 3 (exitNo p x))) x m g) (exit-fits p x l m (has-exit p e g) h);
+        blank = λ x m g. rw (in-gone 8 blankExit exits (λ x. exitOf (recordNo file 3 (exitNo p x))) x m g);
+      })
+      (λ e.
+      let h = ltb-false (p % 32) (statesIn file (p / 32)) e in
+      record {
+        fits = λ g. absurd (omega arith);
+        gone = λ _. refl;
+        exit = λ x m g. absurd (omega arith);
+        blank = λ x m g. rw (getD-replicate 8 x blankExit blankExit m);
+      })
+
+pub shown : (file : List ℕ) → AreBytes file → Passes1 file → Passes3 file → Passes4 file → inPlace file ≡ true → Shown (modelOf file)
+unfolding modelOf statesIn
+shown file bytes p1 p3 p4 e =
+    let pl = placed file e in
+    record {
+      subjects = subjects-within file p1 p3 p4;
+      subject = λ s l. rw (table-at (subjectIn file) 16 s noSubject l) (subject-shown file bytes p1 p3 p4 pl s l);
+      state = λ p l. rw (table-at (subjectIn file) 16 (p / 32) noSubject (omega arith), table-at (stateIn file) 512 p noState l) (state-shown file bytes p1 p3 p4 pl p l);
+    }

@@ -1,12 +1,14 @@
 -- Laws of blocks and records as parts of a file.
-use mathlib.Core.Path.{_≡_, refl, sym, ap, _∙_}
+use mathlib.Core.Path.{_≡_, refl, _∙_}
 use mathlib.Core.Bool.{Bool, true, false, _&&_, cond}
 use mathlib.Core.List.{List, []}
-use Prim.Native.Nat.{ℕ, suc, _+_, _*_, _/_, _%_, _≤_, _<_, min}
+use Prim.Native.Nat.{ℕ, _+_, _*_, _/_, _%_, _≤_, _<_}
 use native.Mathlib.Omega.{arith}
 use borrow.Author.Tests.{lt-ltb, le-ltb, ltb-true, ltb-false}
 use lib.Dec.{ltb}
-use lib.ListN.{length, getD, take, drop, length-take, length-drop}
+use lib.ListN.{length, take, drop, length-take, length-drop}
+use Rattle.sets.proofs.Bytes.{Bytes, none, take-bytes, drop-bytes}
+use Rattle.sets.proofs.Tests.{choose}
 use Rattle.blocks.specs.Blocks.{blocks, blockOf, usedIn, recordIn, recordOf, recordFrom}
 
 -- a whole block, and one that is not
@@ -55,3 +57,18 @@ module _ (block : List ℕ) (i : ℕ) where
       go : (t : Bool) → cond (t && ltb i 42) (take 12 (drop (4 + i * 12) block)) [] ≡ []
       go true = rw (le-ltb i 42 h)
       go false = refl
+
+-- ---- the parts of a file of bytes are bytes
+
+block-bytes : (file : List ℕ) (b : ℕ) → Bytes file → Bytes (blockOf file b)
+unfolding blockOf
+block-bytes file b h = choose Bytes (ltb b (blocks file)) (λ _. take-bytes 512 (drop-bytes (b * 512) h)) (λ _. none)
+
+pub record-bytes : (file : List ℕ) (b i : ℕ) → Bytes file → Bytes (recordOf file b i)
+unfolding recordOf recordIn
+record-bytes file b i h =
+    choose Bytes (ltb i (usedIn (blockOf file b)) && ltb i 42) (λ _. take-bytes 12 (drop-bytes (4 + i * 12) (block-bytes file b h))) (λ _. none)
+
+pub record-from-bytes : (file : List ℕ) (first j : ℕ) → Bytes file → Bytes (recordFrom file first j)
+unfolding recordFrom
+record-from-bytes file first j h = record-bytes file (first + j / 42) (j % 42) h

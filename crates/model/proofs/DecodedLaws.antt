@@ -1,55 +1,24 @@
 -- Laws of the model that a file's records say: its counts are bytes, and the parts that the code reads and computes are those of the spec.
 use mathlib.Core.Path.{_≡_, refl, ap, _∙_}
-use mathlib.Core.Bool.{Bool, true, false, _&&_, cond}
-use mathlib.Core.List.{List, []}
+use mathlib.Core.Bool.{Bool, true, false, cond}
+use mathlib.Core.List.{List}
 use Prim.Native.Nat.{ℕ, _+_, _*_, _/_, _%_, _≤_, _<_}
 use native.Mathlib.Omega.{arith}
-use borrow.Author.Tests.{ltb-true, ltb-false, eqb-true, eqb-false}
+use borrow.Author.Tests.{eqb-true, eqb-false}
 use lib.Dec.{ltb, eqb}
-use lib.ListN.{length, getD, take, drop, length-take, List·getD-eq-default}
-use lib.Seq.{getD-take, getD-drop}
+use lib.ListN.{getD}
 use mir.Syntax.{w8}
 use mir.Val.{Fits}
 use Rattle.sets.specs.Below.{sumBelow, table}
 use Rattle.sets.proofs.Below.{sum-turn, sum-bound, table-at}
+use Rattle.sets.proofs.Bytes.{byte-at, bytes-by}
 use Rattle.sets.proofs.Tests.{choose}
-use Rattle.blocks.specs.Blocks.{blocks, blockOf, usedOf, recordIn, recordOf, recordFrom, firstBlock}
+use Rattle.blocks.proofs.BlockLaws.{record-bytes}
+use Rattle.blocks.specs.Blocks.{recordOf, recordFrom, firstBlock}
 use Rattle.model.specs.Records.{blankState, stateKey, stateOf}
 use Rattle.model.specs.Decoded.{subjectsIn, rowsIn, subjectIn, statesIn, hasState, exitsIn, stateFrom, stateIn, stateNamed, exitsNamed, exitsNamedIn}
 use Rattle.model.specs.declared.State.{State}
 use Rattle.model.specs.declared.Subject.{Subject}
-
--- ---- the records of a file of bytes are bytes
-
-record Bytes (l : List ℕ) : Type 0 where
-  at : (i : ℕ) → Fits w8 (getD l i 0)
-
-bytes-take : (n : ℕ) {l : List ℕ} → Bytes l → Bytes (take n l)
-bytes-take n {l} h = record { at = λ i. go i (ltb i n) refl }
-  where
-    go : (i : ℕ) (b : Bool) → ltb i n ≡ b → Fits w8 (getD (take n l) i 0)
-    go i true e = rw (getD-take n l i 0 (ltb-true i n e)) (h .at i)
-    go i false e =
-        let k : length (take n l) ≤ i = omega (arith, length-take n l, ltb-false i n e) in
-        rw (List·getD-eq-default (take n l) 0 {n = i} k) (omega arith)
-
-bytes-drop : (n : ℕ) {l : List ℕ} → Bytes l → Bytes (drop n l)
-bytes-drop n {l} h = record { at = λ i. rw (getD-drop n l i 0) (h .at (n + i)) }
-
-bytes-none : Bytes []
-bytes-none = record { at = λ i. omega arith }
-
-bytes-cond : (t : Bool) {l : List ℕ} → Bytes l → Bytes (cond t l [])
-bytes-cond t h = choose Bytes t (λ e. h) (λ e. bytes-none)
-
-bytes-block : {file : List ℕ} → Bytes file → (b : ℕ) → Bytes (blockOf file b)
-unfolding blockOf
-bytes-block {file} h b = bytes-cond (ltb b (blocks file)) (bytes-take 512 (bytes-drop (b * 512) h))
-
-bytes-record : {file : List ℕ} → Bytes file → (b i : ℕ) → Bytes (recordOf file b i)
-unfolding recordOf recordIn
-bytes-record {file} h b i =
-    bytes-cond (ltb i (usedOf file b) && ltb i 42) (bytes-take 12 (bytes-drop (4 + i * 12) (bytes-block h b)))
 
 -- ---- counts and their sums
 
@@ -60,7 +29,7 @@ module _ (file : List ℕ) where
 
   module _ (bytes : (i : ℕ) → Fits w8 (getD file i 0)) where
     a-byte : (b i k : ℕ) → getD (recordOf file b i) k 0 ≤ 255
-    a-byte b i k = omega (arith, bytes-record {file = file} (record { at = bytes }) b i .at k)
+    a-byte b i k = omega (arith, byte-at (record-bytes file b i (bytes-by file (λ j. omega (arith, bytes j)))) k)
 
     pub states-few : (s : ℕ) → statesIn file s ≤ 255
     unfolding statesIn subjectIn

@@ -1,5 +1,5 @@
 -- The model that a file's records say, and whether each record stands where the model has its thing.
-use Prim.Native.Nat.{ℕ, suc, _+_, _*_, _/_, _%_, min}
+use Prim.Native.Nat.{ℕ, _+_, _*_, _/_, _%_, min}
 use mathlib.Core.Bool.{Bool, true, _&&_, cond}
 use mathlib.Core.List.{List}
 use lib.Dec.{ltb, leb, eqb}

@@ -1,7 +1,7 @@
 -- The rules for the fields of a state, an exit and a limit row: those that one record shows, and those that ask what exists.
-use Prim.Native.Nat.{ℕ, _+_, _*_}
+use Prim.Native.Nat.{ℕ}
 use mathlib.Core.Bool.{Bool, true, false, _&&_, _||_, not, cond}
-use lib.Dec.{ltb, leb, eqb}
+use lib.Dec.{ltb, eqb}
 use Rattle.sets.specs.Tests.{within, same, noneFrom}
 use Rattle.model.specs.Sizes.{mostExits, mostLimit, types}
 use Rattle.model.specs.declared.Exit.{Exit}

@@ -1,6 +1,5 @@
 // What a record says, and its place in the order.
 ghost use mathlib.Core.Path.{_≡_};
-ghost use lib.ListN.{length};
 ghost use Rattle.model.specs.Records.{blankExits, blankRows, stateOf, exitOf, rowOf, stateKey, fullKey, orderOf};
 use super::Exit;
 use super::Row;

@@ -1,9 +1,8 @@
 // What is right of a file's length, of a block and of a record: refusals 1 to 4; 2 is a block's own.
 ghost use mathlib.Core.Path.{_≡_};
-ghost use Prim.Native.Nat.{ℕ, _+_, _-_, _<_};
-ghost use lib.ListN.{getD};
+ghost use Prim.Native.Nat.{_-_, _<_};
 ghost use Rattle.sets.specs.Below.{firstNot};
-ghost use Rattle.blocks.specs.Blocks.{blocks, blockOf, checkRight, kindOf, firstBlock, countOf};
+ghost use Rattle.blocks.specs.Blocks.{blocks, blockOf, checkRight, kindOf};
 ghost use Rattle.model.specs.Stages.{lengthRight, kindRight, fullRight, blockRight, recordBefore, Kinds, headerRight, exitRight, limitRight, fieldsRight, recordRight, recordsRight};
 use super::records;
 use super::rules;

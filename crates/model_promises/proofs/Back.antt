@@ -1,22 +1,22 @@
 -- The file of a valid model is read back: each record is where the loader looks for it, and the model that they say is the model.
-use mathlib.Core.Path.{_≡_, refl, sym, ap, subst, _∙_}
-use mathlib.Core.Bool.{Bool, true, false, _&&_, cond}
-use mathlib.Core.List.{List, [], _∷_, _++_}
-use Prim.Native.Nat.{ℕ, zero, suc, _+_, _-_, _*_, _/_, _%_, _≤_, _<_, min}
+use mathlib.Core.Path.{_≡_, refl, sym, ap, _∙_}
+use mathlib.Core.Bool.{Bool, true, false, cond}
+use mathlib.Core.List.{List, []}
+use Prim.Native.Nat.{ℕ, suc, _+_, _-_, _*_, _/_, _%_, _≤_, _<_}
 use native.Mathlib.Numerals.{add-one}
 use native.Mathlib.Omega.{arith}
-use borrow.Author.Tests.{ltb-true, ltb-false, lt-ltb, le-ltb, eq-eqb, le-leb}
-use lib.Dec.{ltb, leb, eqb}
+use borrow.Author.Tests.{ltb-true, ltb-false, lt-ltb, eq-eqb, le-leb}
+use lib.Dec.{ltb, eqb}
 use lib.ListN.{length, getD, replicate, getD-replicate, length-replicate}
 use lib.Seq.{ext-getD}
-use Rattle.sets.specs.Below.{allBelow, sumBelow, countBelow, table}
-use Rattle.sets.specs.Groups.{placeIn, inPlaces, lined}
+use Rattle.sets.specs.Below.{sumBelow}
+use Rattle.sets.specs.Groups.{placeIn, inPlaces}
 use Rattle.sets.proofs.Tests.{and-true}
 use Rattle.sets.proofs.Below.{table-at, table-of, length-table, sum-same, sum-has, all-by}
-use Rattle.sets.proofs.Groups.{lined-at, length-lined, Spot, spot, count-group}
-use Rattle.blocks.specs.Blocks.{firstBlock, recordOf, recordFrom, recordNo, countOf}
-use Rattle.model.specs.Records.{blankExit, blankExits, blankRow, blankRows, blankState, blankSubject, stateOf, exitOf, rowOf, stateKey, fullKey}
-use Rattle.model.specs.Decoded.{subjectsIn, startIn, limitsIn, rowsIn, rowsFrom, subjectIn, statesIn, hasState, stateRecordIn, exitsIn, exitsFrom, stateFrom, stateIn, modelOf, stateNamed, exitsNamed, exitsNamedIn, ownerThere, statesInPlace, exitsInPlace, limitsInPlace, inPlace}
+use Rattle.sets.proofs.Groups.{lined-at, length-lined, spot, count-group}
+use Rattle.blocks.specs.Blocks.{firstBlock, recordOf, recordNo, countOf}
+use Rattle.model.specs.Records.{blankExit, blankRow, stateOf, exitOf, rowOf, fullKey}
+use Rattle.model.specs.Decoded.{subjectsIn, limitsIn, rowsIn, rowsFrom, subjectIn, statesIn, hasState, stateRecordIn, exitsIn, exitsFrom, stateFrom, stateIn, modelOf, stateNamed, exitsNamed, exitsNamedIn, ownerThere, statesInPlace, exitsInPlace, limitsInPlace, inPlace}
 use Rattle.model.specs.Valid.{subjectAt, stateAt, exitAt, rowAt, noState, noSubject, Held}
 use Rattle.model.specs.File.{headerRecord, subjectRecord, stateRecord, exitRecord, limitRecord, headers, stateRecords, exitRecords, limitRecords, recordsOf}
 use Rattle.model.specs.declared.Exit.{Exit}
@@ -24,8 +24,8 @@ use Rattle.model.specs.declared.Model.{Model}
 use Rattle.model.specs.declared.Row.{Row}
 use Rattle.model.specs.declared.State.{State}
 use Rattle.model.specs.declared.Subject.{Subject}
-use Rattle.model_promises.proofs.Facts.{Small, Empty, GoodExit, GoodRow, GoodSubject, GoodState, GoodModel, statesOf, rowsOf, exitsOf}
-use Rattle.model_promises.proofs.Lines.{length-headers, length-states, length-exits, length-limits}
+use Rattle.model_promises.proofs.Facts.{GoodModel, statesOf, rowsOf, exitsOf}
+use Rattle.model_promises.proofs.Lines.{length-states, length-exits, length-limits}
 use Rattle.model_promises.proofs.Packed.{Packed}
 
 -- ---- a record says what it was made of

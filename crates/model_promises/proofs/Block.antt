@@ -7,11 +7,12 @@ use native.Mathlib.Omega.{arith}
 use borrow.Author.Tests.{lt-ltb, eq-eqb}
 use lib.ListN.{length, getD, drop, replicate, length-append, length-replicate}
 use lib.Seq.{take-at, drop-at, getD-append-add}
+use Rattle.sets.proofs.Bytes.{Bytes, none, _&_, append-bytes, zero-bytes}
 use Rattle.sets.proofs.Tests.{and-true, within-true}
 use Rattle.blocks.specs.Checks.{stepOf, checkOf}
 use Rattle.blocks.specs.Blocks.{numberIn, kindIn, usedIn, bodyIn, recordIn, checkRight, roomRight}
 use Rattle.model.specs.File.{joined, fourBytes, bodyWith, blockWith}
-use Rattle.model_promises.proofs.Pieces.{Each, length-joined, piece-at, Bytes, none, _&_, append-bytes, zero-bytes, joined-bytes, zeros}
+use Rattle.model_promises.proofs.Pieces.{Each, length-joined, piece-at, joined-bytes, zeros}
 
 -- ---- the check
 

@@ -1,22 +1,20 @@
 -- What validity tells of each part of a model: bounds for every number, and blank room where a thing is not there.
-use mathlib.Core.Path.{_≡_, refl, sym, ap, subst, _∙_}
+use mathlib.Core.Path.{_≡_, refl}
 use mathlib.Core.Logic.{_⊎_, inl, inr, ⊎-elim}
-use mathlib.Core.Bool.{Bool, true, false, _&&_, _||_, not, cond}
-use mathlib.Core.List.{List, []}
-use Prim.Native.Nat.{ℕ, suc, _+_, _-_, _*_, _/_, _%_, _^_, _≤_, _<_}
+use mathlib.Core.Bool.{Bool, true, false, _&&_, _||_, not}
+use Prim.Native.Nat.{ℕ, _-_, _/_, _%_, _≤_, _<_}
 use native.Mathlib.Nat.{le-trans}
 use native.Mathlib.Omega.{arith}
-use borrow.Author.Tests.{ltb-true, ltb-false, leb-true, eqb-true, lt-ltb, le-ltb, eq-eqb}
+use borrow.Author.Tests.{ltb-true, ltb-false, leb-true, eqb-true, lt-ltb, le-ltb}
 use lib.Dec.{ltb, leb, eqb}
-use lib.ListN.{length, getD}
 use Rattle.sets.specs.Below.{allBelow, sumBelow}
 use Rattle.sets.specs.Tests.{within, noneFrom}
-use Rattle.sets.proofs.Tests.{Both, and-both, within-is, not-both, choose}
+use Rattle.sets.proofs.Tests.{and-both, within-is, choose}
 use Rattle.sets.proofs.Below.{all-each}
 use Rattle.sets.proofs.Masks.{mask-below}
 use Rattle.model.specs.Records.{blankExit, blankRow}
 use Rattle.model.specs.Rules.{any, isType, typeOrAny, shapeOf, namesFit, stateFits, exitFits, rowFits, thereOrAny, stateReaches, exitReaches, rowReaches}
-use Rattle.model.specs.Valid.{subjectAt, stateAt, exitAt, rowAt, isBlankState, exitValid, stateOwn, stateValid, rowKey, rowAscends, rowValid, subjectFits, subjectOwn, subjectValid, kindAt, subjectRight, stateRight, startRight, exitsInAll, valid}
+use Rattle.model.specs.Valid.{subjectAt, stateAt, exitAt, rowAt, isBlankState, exitValid, stateOwn, stateValid, rowAscends, rowValid, subjectOwn, subjectValid, subjectRight, stateRight, startRight, exitsInAll, valid}
 use Rattle.model.specs.declared.Exit.{Exit}
 use Rattle.model.specs.declared.Model.{Model}
 use Rattle.model.specs.declared.Row.{Row}
@@ -128,23 +126,18 @@ state-empty st h =
 
 -- ---- exits and rows
 
+-- three numbers that are tested for zero
+three-zeros : (a b c : ℕ) → (eqb a 0 && eqb b 0 && eqb c 0) ≡ true → (a ≡ 0) × (b ≡ 0) × (c ≡ 0)
+three-zeros a b c h =
+    let r = and-both (eqb a 0 && eqb b 0) (eqb c 0) h in
+    let l = and-both (eqb a 0) (eqb b 0) (r .left) in
+    (eqb-true a 0 (l .left), eqb-true b 0 (l .right), eqb-true c 0 (r .right))
+
 exit-blank : (e : Exit) → (eqb (e .target) 0 && eqb (e .sender) 0 && eqb (e .typ) 0) ≡ true → e ≡ blankExit
-exit-blank e h =
-    let b = and-both _ _ h in
-    let a = and-both _ _ (b .left) in
-    let p = eqb-true (e .target) 0 (a .left) in
-    let q = eqb-true (e .sender) 0 (a .right) in
-    let r = eqb-true (e .typ) 0 (b .right) in
-    λ i. record { target = p i; sender = q i; typ = r i }
+exit-blank e h = let z = three-zeros (e .target) (e .sender) (e .typ) h in λ i. record { target = z .0 i; sender = z .1 i; typ = z .2 i }
 
 row-blank : (w : Row) → (eqb (w .sender) 0 && eqb (w .typ) 0 && eqb (w .limit) 0) ≡ true → w ≡ blankRow
-row-blank w h =
-    let b = and-both _ _ h in
-    let a = and-both _ _ (b .left) in
-    let p = eqb-true (w .sender) 0 (a .left) in
-    let q = eqb-true (w .typ) 0 (a .right) in
-    let r = eqb-true (w .limit) 0 (b .right) in
-    λ i. record { sender = p i; typ = q i; limit = r i }
+row-blank w h = let z = three-zeros (w .sender) (w .typ) (w .limit) h in λ i. record { sender = z .0 i; typ = z .1 i; limit = z .2 i }
 
 -- an exit that a state has: its fields are right, and its numbers fit their bytes
 pub record GoodExit (kind : ℕ) (e : Exit) : Type 0 where
@@ -260,11 +253,10 @@ subject-own n s sub kind h = go (ltb s n) refl
           gone = λ g. absurd (omega arith);
         }
     go false e =
-        let b = and-both (eqb (sub .states) 0 && eqb (sub .initial) 0) (eqb (sub .rows) 0) (rw e at h) in
-        let a = and-both (eqb (sub .states) 0) (eqb (sub .initial) 0) (b .left) in
-        let p = eqb-true (sub .states) 0 (a .left) in
-        let q = eqb-true (sub .initial) 0 (a .right) in
-        let r = eqb-true (sub .rows) 0 (b .right) in
+        let z = three-zeros (sub .states) (sub .initial) (sub .rows) (rw e at h) in
+        let p = z .0 in
+        let q = z .1 in
+        let r = z .2 in
         record {
           states = omega arith;
           initial = omega arith;

@@ -1,18 +1,19 @@
 -- The records of a valid model: twelve bytes each, and few enough for a file.
-use mathlib.Core.Path.{_≡_, refl, sym, ap, subst, _∙_}
-use mathlib.Core.Bool.{Bool, true, false, cond}
-use mathlib.Core.List.{List, [], _∷_, _++_}
+use mathlib.Core.Path.{_≡_, refl, sym, ap, subst}
+use mathlib.Core.Bool.{Bool, true, false}
+use mathlib.Core.List.{List, [], _∷_}
 use Prim.Native.Nat.{ℕ, zero, suc, _+_, _-_, _*_, _/_, _%_, _≤_, _<_}
 use native.Mathlib.Nat.{le-trans, le-of-eq}
 use native.Mathlib.Omega.{arith}
 use borrow.Author.Tests.{ltb-true, ltb-false}
 use lib.Dec.{ltb, eqb}
-use lib.ListN.{length, getD, replicate, List·getD-eq-default}
-use Rattle.sets.specs.Below.{sumBelow, table}
-use Rattle.sets.specs.Groups.{placeIn, lined}
+use lib.ListN.{length, getD, List·getD-eq-default}
+use Rattle.sets.proofs.Bytes.{Bytes, none, _&_, byte-at, zero-bytes}
+use Rattle.sets.specs.Below.{sumBelow}
+use Rattle.sets.specs.Groups.{lined}
 use Rattle.sets.proofs.Tests.{choose}
-use Rattle.sets.proofs.Below.{sum-bound, length-table, table-at, sum-same}
-use Rattle.sets.proofs.Groups.{length-lined, lined-at, Spot, spot}
+use Rattle.sets.proofs.Below.{sum-bound, length-table, table-at}
+use Rattle.sets.proofs.Groups.{length-lined, lined-at, spot}
 use Rattle.model.specs.Valid.{subjectAt, stateAt, exitAt, rowAt, Held}
 use Rattle.model.specs.File.{headerRecord, subjectRecord, stateRecord, exitRecord, limitRecord, headers, stateRecords, exitRecords, limitRecords, recordsOf, blocksFor, startOf}
 use Rattle.model.specs.declared.Exit.{Exit}
@@ -20,9 +21,8 @@ use Rattle.model.specs.declared.Model.{Model}
 use Rattle.model.specs.declared.Row.{Row}
 use Rattle.model.specs.declared.State.{State}
 use Rattle.model.specs.declared.Subject.{Subject}
-use Rattle.model_promises.proofs.Facts.{Small, GoodExit, GoodRow, GoodSubject, GoodState, GoodModel}
+use Rattle.model_promises.proofs.Facts.{Small, GoodExit, GoodRow, GoodSubject, GoodModel}
 use Rattle.model_promises.proofs.Packed.{Sound}
-use Rattle.model_promises.proofs.Pieces.{Bytes, none, _&_, byte-at, zero-bytes}
 
 byte : (x : ℕ) {s : List ℕ} → x < 256 → Bytes s → Bytes (x ∷ s)
 byte x h b = h & b

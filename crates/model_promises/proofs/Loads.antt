@@ -1,20 +1,22 @@
 -- What loads is valid, a valid model is loaded from its own file, and each verdict means what it says.
 use mathlib.Core.Path.{_≡_, refl, sym, ap, subst, _∙_}
-use mathlib.Core.Bool.{Bool, true, false, _&&_, cond}
+use mathlib.Core.Bool.{Bool, true, false, cond}
 use mathlib.Core.Logic.{_↔_}
-use mathlib.Core.List.{List, []}
-use Prim.Native.Nat.{ℕ, zero, suc, _+_, _*_, _/_, _%_, _<_}
+use mathlib.Core.List.{List}
+use Prim.Native.Nat.{ℕ, _/_, _%_, _<_}
 use native.Mathlib.Omega.{arith}
 use lib.Dec.{ltb}
-use lib.ListN.{length, take, drop}
+use lib.ListN.{length}
+use Rattle.sets.proofs.Bytes.{byte-at, bytes-by}
 use Rattle.sets.specs.Below.{firstNot}
 use Rattle.sets.specs.Groups.{placeIn}
 use Rattle.sets.proofs.Groups.{length-in-places}
 use Rattle.sets.specs.declared.Found.{Found}
 use Rattle.sets.specs.declared.Found.the-variants.{At, Nothing}
 use Rattle.sets.proofs.Tests.{and-true, and-both, choose}
-use Rattle.sets.proofs.Below.{FirstNot, first-each, first-is, first-by, first-found, length-table, table-at}
-use Rattle.blocks.specs.Blocks.{blocks, blockOf, checkRight, usedIn, recordIn, recordOf, recordFrom, firstBlock}
+use Rattle.sets.proofs.Below.{first-each, first-is, first-by, first-found, length-table, table-at}
+use Rattle.blocks.proofs.BlockLaws.{record-from-bytes}
+use Rattle.blocks.specs.Blocks.{blocks, blockOf, checkRight, firstBlock}
 use Rattle.model.specs.Decoded.{subjectsIn, rowsFrom, subjectIn, statesIn, hasState, exitsFrom, stateFrom, stateIn, modelOf, inPlace}
 use Rattle.model.specs.Records.{stateOf}
 use Rattle.model.specs.Loading.{loaded, acrossRight, acrossOr, refused, unlessAt, emptyModel}
@@ -31,8 +33,7 @@ use Rattle.model_promises.specs.Loads.{AreBytes, LoadsTo, Passes1, Passe
 use Rattle.model_promises.proofs.Back.{model-back, place-back}
 use Rattle.model_promises.proofs.Facts.{model-good}
 use Rattle.model_promises.proofs.Lines.{sound}
-use Rattle.model_promises.proofs.Packed.{Packed, packed}
-use Rattle.model_promises.proofs.Pieces.{Bytes, none, _&_, byte-at, bytes-by}
+use Rattle.model_promises.proofs.Packed.{packed}
 use Rattle.model_promises.proofs.Right as right
 
 -- ---- what each verdict means
@@ -139,29 +140,6 @@ valid-loads m held ok =
 
 -- ---- what loads is a model that the machine can hold
 
--- parts of a run of bytes are bytes
-take-bytes : (n : ℕ) {s : List ℕ} → Bytes s → Bytes (take n s)
-take-bytes zero b = none
-take-bytes (suc n) none = none
-take-bytes (suc n) (h & b) = h & take-bytes n b
-
-drop-bytes : (n : ℕ) {s : List ℕ} → Bytes s → Bytes (drop n s)
-drop-bytes zero b = b
-drop-bytes (suc n) none = none
-drop-bytes (suc n) (h & b) = drop-bytes n b
-
-block-bytes : (file : List ℕ) (b : ℕ) → Bytes file → Bytes (blockOf file b)
-unfolding blockOf
-block-bytes file b h = choose Bytes (ltb b (blocks file)) (λ _. take-bytes 512 (drop-bytes (b * 512) h)) (λ _. none)
-
-record-in-bytes : (block : List ℕ) (i : ℕ) → Bytes block → Bytes (recordIn block i)
-unfolding recordIn
-record-in-bytes block i h = choose Bytes (ltb i (usedIn block) && ltb i 42) (λ _. take-bytes 12 (drop-bytes (4 + i * 12) h)) (λ _. none)
-
-pub record-bytes : (file : List ℕ) (first j : ℕ) → Bytes file → Bytes (recordFrom file first j)
-unfolding recordFrom recordOf
-record-bytes file first j h = record-in-bytes (blockOf file (first + j / 42)) (j % 42) (block-bytes file (first + j / 42) h)
-
 subject-row : (file : List ℕ) (s : ℕ) → length (subjectIn file s .row) ≡ 8
 unfolding subjectIn rowsFrom
 subject-row file s = choose (λ (x : Subject). length (x .row) ≡ 8) (ltb s (subjectsIn file)) (λ _. length-in-places 8 _ _ _) (λ _. refl)
@@ -174,7 +152,7 @@ state-after : (file : List ℕ) (p : ℕ) → AreBytes file → stateIn file p .
 unfolding stateIn stateFrom stateOf
 state-after file p h =
     choose (λ (x : State). x .after < 65536) (hasState file p)
-    (λ _. let b = byte-at (record-bytes file (firstBlock file 2) (placeIn (statesIn file) (p / 32) (p % 32)) (bytes-by file h)) in omega (arith, b 6, b 7))
+    (λ _. let b = byte-at (record-from-bytes file (firstBlock file 2) (placeIn (statesIn file) (p / 32) (p % 32)) (bytes-by file h)) in omega (arith, b 6, b 7))
     (λ _. omega arith)
 
 model-held : (file : List ℕ) → AreBytes file → Held (modelOf file)

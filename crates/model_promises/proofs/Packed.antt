@@ -8,11 +8,12 @@ use native.Mathlib.Omega.{arith}
 use borrow.Author.Tests.{ltb-true, ltb-false, lt-ltb, le-leb, eqb-false, eq-eqb, ne-eqb}
 use lib.Dec.{ltb, eqb}
 use lib.ListN.{length, getD}
+use Rattle.sets.proofs.Bytes.{byte-at}
 use Rattle.sets.proofs.Tests.{and-true, within-true}
 use Rattle.blocks.specs.Blocks.{blocks, blockOf, kindOf, usedOf, recordOf, recordNo, countOf, checkRight, roomRight}
 use Rattle.model.specs.Stages.{lengthRight, kindRight, fullRight, blockRight, recordBefore}
 use Rattle.model.specs.File.{startOf, fileWith}
-use Rattle.model_promises.proofs.Pieces.{length-part, byte-at}
+use Rattle.model_promises.proofs.Pieces.{length-part}
 use Rattle.model_promises.proofs.Block.{check-right, room-right}
 use Rattle.model_promises.proofs.Places.{Place, Twelve, start-none, start-more, start-grows, place, in-file, kind-below, kind-from, fits, length-file, blocks-are, no-block, block-is, kind-at, used-at, record-at, file-bytes, no-is, count-of}
 

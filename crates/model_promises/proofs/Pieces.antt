@@ -12,6 +12,7 @@ use lib.Seq.{take-at, drop-at, drop-drop, getD-take, getD-drop}
 use Rattle.sets.specs.Below.{sumBelow, countBelow}
 use Rattle.sets.specs.Tests.{allZero}
 use Rattle.sets.proofs.Below.{all-by}
+use Rattle.sets.proofs.Bytes.{Bytes, none, append-bytes}
 use Rattle.model.specs.File.{joined}
 
 -- ---- parts
@@ -55,30 +56,6 @@ module _ (w : ℕ) where
       (piece-at ps t (each-rest p ps e) i (omega arith))
 
 -- ---- bytes
-
--- every number of the run is a byte
-pub data Bytes : List ℕ → Type 0 where
-  none : Bytes []
-  _&_ : {x : ℕ} {s : List ℕ} → x < 256 → Bytes s → Bytes (x ∷ s)
-
-infixr 5 _&_
--- by the place of a byte
-pub byte-at : {s : List ℕ} → Bytes s → (i : ℕ) → getD s i 0 < 256
-byte-at none i = omega arith
-byte-at (h & b) zero = h
-byte-at (h & b) (suc i) = byte-at b i
-
-pub bytes-by : (s : List ℕ) → ((i : ℕ) → getD s i 0 < 256) → Bytes s
-bytes-by [] f = none
-bytes-by (x ∷ s) f = f 0 & bytes-by s (λ i. f (suc i))
-
-pub append-bytes : {s t : List ℕ} → Bytes s → Bytes t → Bytes (s ++ t)
-append-bytes none c = c
-append-bytes (h & b) c = h & append-bytes b c
-
-pub zero-bytes : (n : ℕ) → Bytes (replicate n 0)
-zero-bytes zero = none
-zero-bytes (suc n) = let h : 0 < 256 = omega arith in h & zero-bytes n
 
 pub joined-bytes : (ps : List (List ℕ)) → ((i : ℕ) → i < length ps → Bytes (getD ps i [])) → Bytes (joined ps)
 unfolding joined

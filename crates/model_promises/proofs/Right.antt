@@ -1,21 +1,19 @@
 -- Every record of the file of a valid model is right: in order, and its fields by the rules.
-use mathlib.Core.Path.{_≡_, refl, sym, ap, subst, _∙_}
-use mathlib.Core.Logic.{_⊎_, inl, inr, ⊎-elim}
-use mathlib.Core.Bool.{Bool, true, false, _&&_, _||_, cond}
-use mathlib.Core.List.{List, [], _∷_, _++_}
+use mathlib.Core.Path.{_≡_, refl, sym, ap, _∙_}
+use mathlib.Core.Bool.{Bool, true, false, _||_, cond}
+use mathlib.Core.List.{List, []}
 use Prim.Native.Nat.{ℕ, zero, suc, _+_, _-_, _*_, _/_, _%_, _≤_, _<_}
 use native.Mathlib.Omega.{arith}
-use borrow.Author.Tests.{ltb-true, ltb-false, lt-ltb, le-ltb, eq-eqb, ne-eqb, eqb-true, eqb-false}
-use lib.Dec.{ltb, leb, eqb}
-use lib.ListN.{length, getD, drop}
-use Rattle.sets.specs.Below.{sumBelow, table}
-use Rattle.sets.specs.Groups.{placeIn, lined}
-use Rattle.sets.specs.Tests.{within, allZero}
+use borrow.Author.Tests.{ltb-true, ltb-false, lt-ltb, eq-eqb, ne-eqb, eqb-true, eqb-false}
+use lib.Dec.{ltb, eqb}
+use lib.ListN.{length, getD}
+use Rattle.sets.specs.Below.{sumBelow}
+use Rattle.sets.specs.Groups.{placeIn}
 use Rattle.sets.proofs.Tests.{and-true, within-true}
 use Rattle.sets.proofs.Below.{table-at, length-table, all-by, sum-has}
-use Rattle.sets.proofs.Groups.{lined-at, length-lined, Spot, spot, line-ascends}
-use Rattle.blocks.specs.Blocks.{blocks, kindOf, usedOf, recordOf, recordNo, countOf}
-use Rattle.model.specs.Records.{blankExits, stateOf, exitOf, rowOf, stateKey, fullKey, orderOf}
+use Rattle.sets.proofs.Groups.{spot, line-ascends}
+use Rattle.blocks.specs.Blocks.{blocks, usedOf, recordOf, recordNo}
+use Rattle.model.specs.Records.{blankExits, stateOf, exitOf, rowOf, stateKey, orderOf}
 use Rattle.model.specs.Rules.{stateFits, exitFits, rowFits}
 use Rattle.model.specs.Stages.{recordBefore, ascends, kindAmong, ownKind, headerRight, exitRight, limitRight, fieldsRight, recordRight, recordsRight}
 use Rattle.model.specs.Valid.{subjectAt, stateAt, exitAt, rowAt, rowKey, rowAscends, Held}
@@ -26,7 +24,7 @@ use Rattle.model.specs.declared.Row.{Row}
 use Rattle.model.specs.declared.State.{State}
 use Rattle.model.specs.declared.Subject.{Subject}
 use Rattle.model_promises.proofs.Back.{word-back, count-states, state-record}
-use Rattle.model_promises.proofs.Facts.{Small, GoodExit, GoodRow, GoodSubject, GoodState, GoodModel, statesOf, rowsOf, exitsOf}
+use Rattle.model_promises.proofs.Facts.{GoodSubject, GoodModel, statesOf, exitsOf}
 use Rattle.model_promises.proofs.Lines.{length-headers, lined-all}
 use Rattle.model_promises.proofs.Packed.{Packed, Standing}
 use Rattle.model_promises.proofs.Pieces.{zeros}

@@ -7,12 +7,14 @@ use native.Mathlib.Omega.{arith}
 use borrow.Author.Tests.{ltb-true, ltb-false, lt-ltb, le-ltb, leb-true, eqb-true, ne-eqb}
 use lib.Dec.{ltb, leb, eqb}
 use lib.ListN.{getD, getD-replicate}
+use Rattle.sets.proofs.Bytes.{byte-at, bytes-by}
 use Rattle.sets.specs.Below.{allBelow, sumBelow}
 use Rattle.sets.specs.Groups.{placeIn, inPlaces}
 use Rattle.sets.specs.Tests.{within}
 use Rattle.sets.proofs.Tests.{Within, within-is, and-both, choose}
 use Rattle.sets.proofs.Below.{all-each, table-at, sum-has, sum-same}
 use Rattle.sets.proofs.Groups.{in-places-at, spot}
+use Rattle.blocks.proofs.BlockLaws.{record-from-bytes}
 use Rattle.blocks.specs.Blocks.{firstBlock, recordNo, countOf}
 use Rattle.model.specs.Decoded.{subjectsIn, limitsIn, rowsIn, rowsFrom, subjectIn, statesIn, hasState, stateRecordIn, exitsIn, exitsFrom, stateFrom, stateIn, modelOf, stateNamed, exitsNamed, exitsNamedIn, ownerThere, statesInPlace, exitsInPlace, limitsInPlace, inPlace}
 use Rattle.model.specs.Records.{blankExit, blankExits, blankRow, stateOf, exitOf, rowOf, stateKey, fullKey}
@@ -25,9 +27,7 @@ use Rattle.model.specs.declared.Row.{Row}
 use Rattle.model.specs.declared.State.{State}
 use Rattle.model.specs.declared.Subject.{Subject}
 use Rattle.model_promises.specs.Loads.{AreBytes, Passes1, Passes3, Passes4}
-use Rattle.model_promises.proofs.Loads.{record-bytes}
 use Rattle.model_promises.proofs.Ordered.{own-place}
-use Rattle.model_promises.proofs.Pieces.{byte-at, bytes-by}
 use Rattle.model_promises.proofs.Right.{kind-found, key-apart}
 use Rattle.model_promises.proofs.Stacked.{subjects-within, states-within, fields-right, keys-climb}
 
@@ -128,7 +128,7 @@ exit-right file r kind e some h = and-both (exitFits kind (exitOf r)) _ (rw (e, 
 module _ (file : List ℕ) (bytes : AreBytes file) (p1 : Passes1 file) (p3 : Passes3 file) (p4 : Passes4 file) (pl : Placed file) where
   -- the bytes of a record
   a-byte : (k j i : ℕ) → getD (recordNo file k j) i 0 < 256
-  a-byte k j = byte-at (record-bytes file (firstBlock file k) j (bytes-by file bytes))
+  a-byte k j = byte-at (record-from-bytes file (firstBlock file k) j (bytes-by file bytes))
 
   abbrev n : ℕ
   n = subjectsIn file

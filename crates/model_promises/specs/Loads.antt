@@ -4,8 +4,7 @@ use mathlib.Core.Bool.{true, false}
 use mathlib.Core.List.{List}
 use Prim.Native.Nat.{ℕ, _<_}
 use lib.ListN.{getD}
-use Rattle.blocks.specs.Blocks.{blocks, blockOf, checkRight, roomRight}
-use Rattle.model.specs.Decoded.{modelOf}
+use Rattle.blocks.specs.Blocks.{blocks, blockOf, checkRight}
 use Rattle.model.specs.Loading.{loaded, acrossRight}
 use Rattle.model.specs.Stages.{lengthRight, blockRight, recordsRight}
 use Rattle.model.specs.declared.Model.{Model}

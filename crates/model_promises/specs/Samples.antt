@@ -10,7 +10,6 @@ use Rattle.model.specs.Rules.{any}
 use Rattle.model.specs.declared.Exit.{Exit}
 use Rattle.model.specs.declared.Model.{Model}
 use Rattle.model.specs.declared.State.{State}
-use Rattle.model.specs.declared.Subject.{Subject}
 
 -- one exit, the other places blank
 abbrev pub oneExit : ℕ → ℕ → ℕ → List Exit

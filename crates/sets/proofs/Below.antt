@@ -1,18 +1,18 @@
 -- Laws of tests, searches, sums and tables over the numbers below n: a loop's start, its turn and its end, and what the result tells.
 use mathlib.Core.Path.{_≡_, refl, sym, ap, subst, _∙_}
-use mathlib.Core.Logic.{_⊎_, inl, inr, ⊎-elim}
-use mathlib.Core.Bool.{Bool, true, false, _&&_, cond}
+use mathlib.Core.Logic.{_⊎_, ⊎-elim}
+use mathlib.Core.Bool.{Bool, true, false, cond}
 use mathlib.Core.List.{List, [], _∷_, _++_, append-assoc, append-nil}
 use Prim.Native.Nat.{ℕ, zero, suc, _+_, _-_, _*_, _≤_, _<_}
 use native.Mathlib.Nat.{eq-or-lt-of-le, le-antisymm, le-of-suc-le-suc, not-suc-le-zero, sub-self, sub-zero, add-zero, add-suc}
 use native.Mathlib.Numerals.{add-one}
 use native.Mathlib.Omega.{arith}
-use lib.ListN.{length, getD, set, replicate, length-append, length-replicate, getD-replicate}
-use lib.Seq.{ext-getD, set-at, getD-at}
-use Rattle.sets.specs.Below.{allBelow, orElse, firstNot, sumBelow, countBelow, tableFrom, table, filled}
+use lib.ListN.{length, getD, set, replicate, length-append, length-replicate}
+use lib.Seq.{ext-getD, set-at}
+use Rattle.sets.specs.Below.{allBelow, firstNot, sumBelow, countBelow, tableFrom, table, filled}
 use Rattle.sets.specs.declared.Found.{Found}
 use Rattle.sets.specs.declared.Found.the-variants.{At, Nothing}
-use Rattle.sets.proofs.Tests.{not-both, and-true, and-both, and-false, is-false}
+use Rattle.sets.proofs.Tests.{and-true, and-both, and-false}
 
 -- i < n + 1: it is n, or below
 pub last-or : (i n : ℕ) → i < suc n → (i ≡ n) ⊎ (i < n)

@@ -2,3 +2,4 @@ pub mod Tests
 pub mod Below
 pub mod Masks
 pub mod Groups
+pub mod Bytes

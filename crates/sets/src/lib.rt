@@ -1,6 +1,6 @@
 // What the layers share: tests, bytes and masks. Every function takes any values.
 ghost use mathlib.Core.Path.{_≡_};
-ghost use mathlib.Core.Bool.{_&&_, _||_, not};
+ghost use mathlib.Core.Bool.{_&&_, _||_};
 ghost use Prim.Native.Nat.{_+_, _*_};
 ghost use lib.ListN.{getD, drop};
 ghost use Rattle.sets.specs.Tests.{within, same, allZero, noneFrom};

@@ -1,5 +1,4 @@
 use mathlib.Core.Path.{sym}
-use denote.Ref.{now}
 use native.Mathlib.Nat.{add-sub-cancel-left}
 use Rattle.blocks.proofs.BlockLaws.{block-here, block-gone}
 use borrow.Author.Needs.{needs}

@@ -1,11 +1,10 @@
 use mathlib.Core.Path.{_≡_, sym}
 use mathlib.Core.Bool.{cond}
 use Prim.Native.Nat.{_*_, _≤_, _-_}
-use lib.Dec.{ltb, eqb}
-use lib.ListN.{length}
-use Rattle.sets.specs.Below.{sumBelow, countBelow}
+use lib.Dec.{eqb}
+use Rattle.sets.specs.Below.{sumBelow}
 use Rattle.sets.proofs.Below.{sum-start, sum-turn, sum-end}
-use Rattle.blocks.specs.Blocks.{kindOf, usedOf, firstBlock, countOf}
+use Rattle.blocks.specs.Blocks.{kindOf, usedOf, countOf}
 use borrow.Author.Needs.{needs}
 use Rattle.blocks.proofs.parts.count_of.Statement.{statement}
 use Rattle.blocks.proofs.parts.count_of.Tie as tie

@@ -1,8 +1,7 @@
-use mathlib.Core.Path.{sym, ap}
-use denote.Ref.{now}
+use mathlib.Core.Path.{sym}
 use native.Mathlib.Nat.{add-sub-cancel-left}
 use native.Mathlib.Omega.{arith}
-use Rattle.blocks.specs.Blocks.{recordOf, recordIn}
+use Rattle.blocks.specs.Blocks.{recordOf}
 use Rattle.blocks.proofs.BlockLaws.{record-short, record-here, record-unused, record-past}
 use borrow.Author.Needs.{needs}
 use Rattle.blocks.proofs.parts.record.Statement.{statement}

@@ -795,10 +795,12 @@ case("limit-large-17", 4, 42, LARGE, limit(15, 14, ANY, limit=17))
 
 case("order-states-equal", 4, 1, BASE, twice(STATES, 0))
 case("order-states-equal-last", 4, 1, BASE, add(STATES, a_state(1, 1, END, 0)))
+case("order-states-key", 4, 1, BASE, state(0, 1, state=0))  # the kind is not part of it
 case("order-states-down", 4, 1, BASE, swap(STATES, 3))
 case("order-states-subject", 4, 1, BASE, swap(STATES, 7))
 case("order-states-subject-first", 4, 1, BASE, swap(STATES, 8))
 case("order-exits-equal", 4, 2, BASE, twice(EXITS, 5))
+case("order-exits-key", 4, 2, BASE, exit_(0, 0, 1, exit=0))  # the target is not part of it
 case("order-exits-down", 4, 2, BASE, swap(EXITS, 0))  # exit 1, then exit 0
 case("order-exits-state", 4, 2, BASE, swap(EXITS, 1))  # by state before exit
 case("order-exits-subject", 4, 2, BASE, swap(EXITS, 9))  # by subject before state

@@ -1,3 +1,3 @@
-pub mod Arrays
+pub mod BlankLaws
 pub mod StageLaws
 pub mod DecodedLaws

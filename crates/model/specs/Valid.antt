@@ -52,6 +52,10 @@ isBlankState st =
     (eqb (st .kind) 0 && eqb (st .exits) 0 && eqb (st .sender) 0 && eqb (st .typ) 0)
     && (eqb (st .after) 0 && eqb (st .timeout) 0 && eqb (st .cancel) 0 && eqb (st .receivers) 0)
 
+-- nothing but zeros, the exits too
+unfoldable pub isEmptyState : State → Bool
+isEmptyState st = isBlankState st && allBelow (λ x. isBlankExit (exitAt st x)) mostExits
+
 -- exit x of a state: right if the state has it, else blank
 unfoldable pub exitValid : ℕ → ℕ → State → ℕ → Bool
 exitValid n states st x =

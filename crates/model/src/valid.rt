@@ -1,9 +1,11 @@
 // Whether a model is valid: every rule kept, all other room zero.
 ghost use mathlib.Core.Path.{_≡_};
+ghost use mathlib.Core.Bool.{_&&_};
 ghost use Prim.Native.Nat.{_<_};
+ghost use lib.Dec.{leb};
 ghost use Rattle.sets.specs.Below.{allBelow};
-ghost use Rattle.model.specs.Sizes.{mostSubjects, statePlaces, mostExits, mostRows};
-ghost use Rattle.model.specs.Valid.{isBlankState, exitValid, stateValid, rowKey, rowAscends, rowValid, stateOwn, subjectOwn, subjectValid, kindAt, subjectRight, stateRight, startRight, exitsInAll, valid};
+ghost use Rattle.model.specs.Sizes.{mostSubjects, statePlaces, mostExits, mostExitsInAll, mostRows};
+ghost use Rattle.model.specs.Valid.{isBlankState, isEmptyState, exitValid, stateValid, rowKey, rowAscends, rowValid, stateOwn, subjectOwn, subjectValid, subjectRight, stateRight, startRight, exitsInAll, valid};
 use super::Model;
 use super::Row;
 use super::State;
@@ -135,27 +137,16 @@ fn subject_valid(n: u8, s: u8, sub: Subject, kind: u8) -> bool
     true
 }
 
-// The kind of the state at place p; 0 past the last place.
-fn kind_at(states: [State; STATE_PLACES], p: usize) -> u8
-    ensures { λ r. ⌜ r ≡ kindAt states p ⌝ }
-{
-    if p < STATE_PLACES {
-        return states[p].kind;
-    }
-    0
-}
-
 // Every subject is right.
 fn subjects_right(m: Model) -> bool
     ensures { λ r. ⌜ r ≡ allBelow (subjectRight m) mostSubjects ⌝ }
 {
     let n = m.n;
-    let states = m.states;
     let mut s: usize = 0;
     while s < MOST_SUBJECTS {
         let sub = m.subjects[s];
-        let kind = kind_at(states, s * MOST_STATES + sub.initial as usize);
-        if !subject_valid(n, s as u8, sub, kind) {
+        let first = m.states[s * MOST_STATES + (sub.initial % 32) as usize];
+        if !subject_valid(n, s as u8, sub, first.kind) {
             return false;
         }
         s += 1;
@@ -163,35 +154,51 @@ fn subjects_right(m: Model) -> bool
     true
 }
 
-// Every state is right.
+// Nothing but zeros, the exits too. Most places of a model are so: no branch until the end.
+fn is_empty_state(st: State) -> bool
+    ensures { λ r. ⌜ r ≡ isEmptyState st ⌝ }
+{
+    let bytes = (st.kind | st.exits) | (st.sender | st.typ);
+    let targets = st.timeout | st.cancel;
+    let words = st.after | st.receivers;
+    let mut exits: u8 = 0;
+    let mut x: usize = 0;
+    while x < MOST_EXITS {
+        let e = st.exit[x];
+        exits = exits | (e.target | (e.sender | e.typ));
+        x += 1;
+    }
+    both(both(both(bytes == 0, targets == 0), words == 0), exits == 0)
+}
+
+// The state with number t of a subject with so many states, with its exits: right if the subject has it, else all zero.
+fn place_right(n: u8, states: u8, t: u8, st: State) -> bool
+    ensures { λ r. ⌜ r ≡ stateValid n states t st ⌝ }
+{
+    if t < states {
+        return state_valid(n, states, t, st);
+    }
+    is_empty_state(st)
+}
+
+// Every state is right, and there are not too many exits in all.
 fn states_right(m: Model) -> bool
-    ensures { λ r. ⌜ r ≡ allBelow (stateRight m) statePlaces ⌝ }
+    ensures { λ r. ⌜ r ≡ (allBelow (stateRight m) statePlaces && leb (exitsInAll m) mostExitsInAll) ⌝ }
 {
     let n = m.n;
+    let mut exits: usize = 0;
     let mut p: usize = 0;
     while p < STATE_PLACES {
         let s = p / MOST_STATES;
         let own = m.subjects[s].states;
         let st = m.states[p];
-        if !state_valid(n, own, (p % MOST_STATES) as u8, st) {
+        if !place_right(n, own, (p % MOST_STATES) as u8, st) {
             return false;
         }
+        exits += st.exits as usize;
         p += 1;
     }
-    true
-}
-
-// How many exits there are in all.
-fn exits_in_all(m: Model) -> usize
-    ensures { λ r. ⌜ r ≡ exitsInAll m ⌝ }
-{
-    let mut exits: usize = 0;
-    let mut p = 0;
-    while p < STATE_PLACES {
-        exits += m.states[p].exits as usize;
-        p += 1;
-    }
-    exits
+    exits <= MOST_EXITS_IN_ALL
 }
 
 // The start mask names a subject, and none from n up.
@@ -212,8 +219,5 @@ pub fn is_valid(m: Model) -> bool
     if !subjects_right(m) {
         return false;
     }
-    if !states_right(m) {
-        return false;
-    }
-    exits_in_all(m) <= MOST_EXITS_IN_ALL
+    states_right(m)
 }

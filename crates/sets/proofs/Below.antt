@@ -1,18 +1,20 @@
 -- Laws of tests, searches, sums and tables over the numbers below n: a loop's start, its turn and its end, and what the result tells.
 use mathlib.Core.Path.{_≡_, refl, sym, ap, subst, _∙_}
 use mathlib.Core.Logic.{_⊎_, ⊎-elim}
-use mathlib.Core.Bool.{Bool, true, false, cond}
+use mathlib.Core.Bool.{Bool, true, false, not, cond}
 use mathlib.Core.List.{List, [], _∷_, _++_, append-assoc, append-nil}
 use Prim.Native.Nat.{ℕ, zero, suc, _+_, _-_, _*_, _≤_, _<_}
 use native.Mathlib.Nat.{eq-or-lt-of-le, le-antisymm, le-of-suc-le-suc, not-suc-le-zero, sub-self, sub-zero, add-zero, add-suc}
 use native.Mathlib.Numerals.{add-one}
 use native.Mathlib.Omega.{arith}
-use lib.ListN.{length, getD, set, replicate, length-append, length-replicate}
-use lib.Seq.{ext-getD, set-at}
-use Rattle.sets.specs.Below.{allBelow, firstNot, sumBelow, countBelow, tableFrom, table, filled}
+use borrow.Author.Tests.{lt-ltb, le-ltb, eqb-true, eqb-false, ltb-true, ltb-false, not-true, not-false}
+use lib.Dec.{eqb, ltb}
+use lib.ListN.{length, getD, set, take, drop, replicate, length-append, length-take, length-drop, length-replicate, length-set}
+use lib.Seq.{ext-getD, set-at, getD-set-same, getD-set-other, getD-take, getD-drop}
+use Rattle.sets.specs.Below.{allBelow, someBelow, firstNot, sumBelow, countBelow, tableFrom, table, filled, changed}
 use Rattle.sets.specs.declared.Found.{Found}
 use Rattle.sets.specs.declared.Found.the-variants.{At, Nothing}
-use Rattle.sets.proofs.Tests.{and-true, and-both, and-false}
+use Rattle.sets.proofs.Tests.{and-true, and-both, and-false, not-both}
 
 -- i < n + 1: it is n, or below
 pub last-or : (i n : ℕ) → i < suc n → (i ≡ n) ⊎ (i < n)
@@ -56,6 +58,52 @@ unfolding allBelow
 all-same p q zero f = refl
 all-same p q (suc n) f = rw (all-same p q n (λ i l. f i (omega arith)), f n (omega arith))
 
+-- ---- a test of some number below n
+
+-- p holds at a number below n
+pub record SomeAt (p : ℕ → Bool) (n : ℕ) : Type 0 where
+  pub at : ℕ
+  pub below : at < n
+  pub holds : p at ≡ true
+
+module _ (p : ℕ → Bool) where
+  pub some-start : someBelow p 0 ≡ false
+  some-start = ap not (all-start (λ i. not (p i)))
+
+  pub some-more : (i : ℕ) → someBelow p i ≡ false → p i ≡ false → someBelow p (i + 1) ≡ false
+  some-more i h e = ap not (all-more (λ k. not (p k)) i (not-false _ h) (ap not e))
+
+  pub some-found : (i n : ℕ) → i < n → p i ≡ true → someBelow p n ≡ true
+  some-found i n l e = ap not (all-stop (λ k. not (p k)) i n l (ap not e))
+
+  pub some-by : (n i : ℕ) → i < n → p i ≡ true → someBelow p n ≡ true
+  some-by n i l e = some-found i n l e
+
+  pub some-end : (i n : ℕ) → i ≤ n → n ≤ i → someBelow p i ≡ false → someBelow p n ≡ false
+  some-end i n l g h = subst (λ (k : ℕ). someBelow p k ≡ false) (le-antisymm l g) h
+
+  pub none-some : (n : ℕ) → ((i : ℕ) → i < n → p i ≡ false) → someBelow p n ≡ false
+  none-some n f = ap not (all-by (λ k. not (p k)) n (λ i l. ap not (f i l)))
+
+  pub none-each : (n : ℕ) → someBelow p n ≡ false → (i : ℕ) → i < n → p i ≡ false
+  none-each n h i l = not-true (p i) (all-each (λ k. not (p k)) n (not-false _ h) i l)
+
+  pub some-is : (n : ℕ) → someBelow p n ≡ true → SomeAt p n
+  unfolding allBelow
+  some-is zero h = not-both h refl
+  some-is (suc n) h = go (some-is n) (someBelow p n) refl (p n) refl
+    where
+      go : (someBelow p n ≡ true → SomeAt p n) → (a : Bool) → someBelow p n ≡ a → (b : Bool) → p n ≡ b → SomeAt p (suc n)
+      go ih a e true f = record { at = n; below = omega arith; holds = f }
+      go ih true e false f =
+          let r = ih e in
+          record { at = r .at; below = omega (arith, r .below); holds = r .holds }
+      go ih false e false f = not-both h (rw add-one at (some-more n e f))
+
+-- the same test, number by number
+pub some-same : (p q : ℕ → Bool) (n : ℕ) → ((i : ℕ) → i < n → p i ≡ q i) → someBelow p n ≡ someBelow q n
+some-same p q n f = ap not (all-same (λ i. not (p i)) (λ i. not (q i)) n (λ i l. ap not (f i l)))
+
 -- ---- the first number at which a test fails
 
 -- b is the first number below n at which p fails
@@ -64,10 +112,10 @@ pub record FirstNot (p : ℕ → Bool) (n b : ℕ) : Type 0 where
   pub fails : p b ≡ false
   pub before : (i : ℕ) → i < b → p i ≡ true
 
-no-at : {A : Type 0} {b : ℕ} → Nothing ≡ At b → A
+pub no-at : {A : Type 0} {b : ℕ} → Nothing ≡ At b → A
 no-at h = let z : _≡_ {A = ℕ} 0 1 = cc in absurd (omega arith)
 
-at-is : {a b : ℕ} → At a ≡ At b → a ≡ b
+pub at-is : {a b : ℕ} → At a ≡ At b → a ≡ b
 at-is h = cc
 
 module _ (p : ℕ → Bool) where
@@ -193,6 +241,19 @@ module _ (p : ℕ → Bool) where
       one true = omega arith
       one false = omega arith
 
+  -- it holds at none
+  pub count-none : (n : ℕ) → countBelow p n ≡ 0 → (i : ℕ) → i < n → p i ≡ false
+  unfolding countBelow
+  count-none n h i l = go (p i) (omega (arith, sum-has (λ k. cond (p k) 1 0) i n l))
+    where
+      go : (b : Bool) → _≡_ {A = ℕ} (cond b 1 0) 0 → b ≡ false
+      go true e = absurd (omega arith)
+      go false e = refl
+
+  pub none-count : (n : ℕ) → ((i : ℕ) → i < n → p i ≡ false) → countBelow p n ≡ 0
+  unfolding countBelow
+  none-count n f = sum-same (λ i. cond (p i) 1 0) (λ _. 0) n (λ i l. rw (f i l)) ∙ sum-const 0 n ∙ omega arith
+
 -- ---- tables
 
 module _ {A : Type 0} where
@@ -254,3 +315,68 @@ module _ {A : Type 0} where
   pub fill-end : (f : ℕ → A) (z : A) (n i : ℕ) → i ≤ n → n ≤ i → filled f z n i ≡ table f n
   unfolding filled
   fill-end f z n i l g = let e : i ≡ n = omega arith in rw (e, sub-self, append-nil)
+
+  -- ---- a loop that changes the n places of l, from the first on: `changed f d l n i` has those below i changed
+
+  pub length-changed : (f : ℕ → A → A) (d : A) (l : List A) (n i : ℕ) → length (changed f d l n i) ≡ n
+  unfolding changed
+  length-changed f d l n i = length-table _ n
+
+  pub changed-at : (f : ℕ → A → A) (d : A) (l : List A) (n i k : ℕ) (e : A) → k < n
+      → getD (changed f d l n i) k e ≡ cond (ltb k i) (f k (getD l k d)) (getD l k d)
+  unfolding changed
+  changed-at f d l n i k e h = table-at _ n k e h
+
+  pub change-start : (f : ℕ → A → A) (d : A) (l : List A) (n : ℕ) → length l ≡ n → changed f d l n 0 ≡ l
+  unfolding changed
+  change-start f d l n e = table-of _ n d l e (λ i h. rw (le-ltb i 0 (omega arith)))
+
+  pub change-here : (f : ℕ → A → A) (d : A) (l : List A) (n i : ℕ) (e : A) → i < n → getD (changed f d l n i) i e ≡ getD l i d
+  change-here f d l n i e h = changed-at f d l n i i e h ∙ rw (le-ltb i i (omega arith))
+
+  pub change-turn : (f : ℕ → A → A) (d : A) (l : List A) (n i : ℕ) (x : A) → i < n → x ≡ f i (getD l i d)
+      → set (changed f d l n i) i x ≡ changed f d l n (i + 1)
+  change-turn f d l n i x h q =
+      ext-getD
+      d
+      _
+      _
+      (length-set (changed f d l n i) i x ∙ length-changed f d l n i ∙ sym (length-changed f d l n (i + 1)))
+      (λ k m. at k (omega (arith, length-set (changed f d l n i) i x, length-changed f d l n i)) (eqb k i) refl)
+    where
+      at : (k : ℕ) → k < n → (b : Bool) → eqb k i ≡ b → getD (set (changed f d l n i) i x) k d ≡ getD (changed f d l n (i + 1)) k d
+      at k m true e =
+          rw (eqb-true k i e, getD-set-same (changed f d l n i) i x d (omega (arith, length-changed f d l n i)), changed-at f d l n (i + 1) i d h, lt-ltb i (i + 1) (omega arith)) q
+      at k m false e =
+          getD-set-other (changed f d l n i) i k x d (eqb-false k i e)
+          ∙ changed-at f d l n i k d m
+          ∙ ap (λ (b : Bool). cond b (f k (getD l k d)) (getD l k d)) (side (ltb k i) refl)
+          ∙ sym (changed-at f d l n (i + 1) k d m)
+        where
+          side : (b : Bool) → ltb k i ≡ b → ltb k i ≡ ltb k (i + 1)
+          side true t = t ∙ sym (lt-ltb k (i + 1) (omega (arith, ltb-true k i t)))
+          side false t =
+              let ne = eqb-false k i e in
+              t ∙ sym (le-ltb k (i + 1) (omega (arith, ltb-false k i t)))
+
+  pub change-end : (f : ℕ → A → A) (d : A) (l : List A) (n i : ℕ) → i ≤ n → n ≤ i → changed f d l n i ≡ table (λ k. f k (getD l k d)) n
+  unfolding changed
+  change-end f d l n i g e = table-same _ _ n (λ k h. rw (lt-ltb k i (omega arith)))
+
+-- n elements from place p on
+pub part-table : {A : Type 0} (n p : ℕ) (l : List A) (d : A) → p + n ≤ length l → take n (drop p l) ≡ table (λ i. getD l (p + i) d) n
+part-table n p l d h =
+    let k : length (take n (drop p l)) ≡ n = omega (arith, length-take n (drop p l), length-drop p l) in
+    ext-getD
+    d
+    _
+    _
+    (k ∙ sym (length-table _ n))
+    (λ i m. getD-take n (drop p l) i d (omega arith) ∙ getD-drop p l i d ∙ sym (table-at _ n i d (omega arith)))
+
+-- a turn of a loop that changes an array in place, where `now` is the array as it has become
+pub changed-turn : {A : Type 0} (f : ℕ → A → A) (d : A) (l : List A) (n i : ℕ) (now : List A) (x e : A) → i < n
+    → now ≡ changed f d l n i → x ≡ f i (getD now i e) → set now i x ≡ changed f d l n (i + 1)
+changed-turn {A} f d l n i now x e h p q =
+    ap (λ (y : List A). set y i x) p
+    ∙ change-turn f d l n i x h (q ∙ ap (f i) (ap (λ (y : List A). getD y i e) p ∙ change-here f d l n i e h))

@@ -1,5 +1,7 @@
+pub mod Arrays
 pub mod Tests
 pub mod Below
+pub mod Lists
 pub mod Masks
 pub mod Groups
 pub mod Bytes

@@ -1,8 +1,9 @@
 -- Tests, sums, searches and tables over the numbers 0, 1, .. n - 1.
-use mathlib.Core.Bool.{Bool, true, _&&_, cond}
+use mathlib.Core.Bool.{Bool, true, _&&_, not, cond}
 use mathlib.Core.List.{List, [], _∷_, _++_}
 use Prim.Native.Nat.{ℕ, zero, suc, _+_, _-_}
-use lib.ListN.{replicate}
+use lib.Dec.{ltb}
+use lib.ListN.{getD, replicate}
 use Rattle.sets.specs.declared.Found.{Found}
 use Rattle.sets.specs.declared.Found.the-variants.{At, Nothing}
 
@@ -10,6 +11,10 @@ use Rattle.sets.specs.declared.Found.the-variants.{At, Nothing}
 unfoldable pub allBelow : (ℕ → Bool) → ℕ → Bool
 allBelow p zero = true
 allBelow p (suc n) = allBelow p n && p n
+
+-- p holds at some number below n
+abbrev pub someBelow : (ℕ → Bool) → ℕ → Bool
+someBelow p n = not (allBelow (λ i. not (p i)) n)
 
 -- x, where it is something; else y
 abbrev pub orElse : Found → Found → Found
@@ -42,3 +47,7 @@ table f n = tableFrom f 0 n
 -- n places, of which those below i are filled
 unfoldable pub filled : {A : Type 0} → (ℕ → A) → A → ℕ → ℕ → List A
 filled f z n i = table f i ++ replicate (n - i) z
+
+-- n places of the list l, of which those below i are changed: f k is done to what stands at place k
+unfoldable pub changed : {A : Type 0} → (ℕ → A → A) → A → List A → ℕ → ℕ → List A
+changed f d l n i = table (λ k. cond (ltb k i) (f k (getD l k d)) (getD l k d)) n

@@ -1,3 +1,5 @@
 pub mod Tests
 pub mod Below
 pub mod Groups
+pub mod Lists
+pub mod Masks

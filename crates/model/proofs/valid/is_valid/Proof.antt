@@ -16,10 +16,6 @@ head m = within 1 (m .n) 16 && startRight (m .n) (m .start)
 told : (c : tie.After-both) → head (c .before .before .before .args .m) ≡ c .both .result
 told c = sym (rw (c .both .ensures, c .before .before .is-within .ensures, c .before .start-right .ensures))
 
-kept : (c : tie.Else2) → (head (c .before .before .before .before .before .before .args .m) && allBelow (subjectRight (c .before .before .before .before .before .before .args .m)) 16) ≡ true
-kept c =
-    and-true (told (c .before .before .before) ∙ not-false _ (c .before .before .if1 .left)) (sym (c .before .subjects-right .ensures) ∙ not-false _ (c .if2 .left))
-
 returns : tie.Need-returns
 unfolding valid
 returns c = rw (told (c .before) ∙ not-true _ (c .if1 .taken))
@@ -31,12 +27,8 @@ returns-2 c =
 
 returns-3 : tie.Need-returns-3
 unfolding valid
-returns-3 c = rw (kept (c .before .before), sym (c .before .states-right .ensures) ∙ not-true _ (c .if3 .taken))
-
-returns-4 : tie.Need-returns-4
-unfolding valid
-returns-4 c =
-    rw (kept (c .before .before .before), sym (c .before .before .states-right .ensures) ∙ not-false _ (c .before .if3 .left), c .exits-in-all .ensures)
+returns-3 c =
+    rw (c .states-right .ensures, told (c .before .before .before .before) ∙ not-false _ (c .before .before .before .if1 .left), sym (c .before .before .subjects-right .ensures) ∙ not-false _ (c .before .if2 .left))
 
 pub is-valid-spec : {M : Type 1} → statement M
 is-valid-spec =
@@ -49,6 +41,4 @@ is-valid-spec =
     (λ c κs. search needs)
     returns-2
     (λ c κs. search needs)
-    returns-3
-    (λ c κs. search needs)
-    returns-4)
+    returns-3)

@@ -6,27 +6,26 @@ use borrow.Author.Needs.{needs}
 use Rattle.sets.specs.Below.{allBelow}
 use Rattle.sets.proofs.Below.{all-start, all-more, all-stop, all-end}
 use Rattle.model.specs.Valid.{subjectRight}
+use Rattle.model.proofs.BlankLaws.{kind-seen}
 use Rattle.model.proofs.valid.subjects_right.Statement.{statement}
 use Rattle.model.proofs.valid.subjects_right.Tie as tie
 
 abbrev Inv-loop : tie.InvT-loop
-Inv-loop m n states s₀ s = (s ≤ 16) × (allBelow (subjectRight m) s ≡ true)
+Inv-loop m n s₀ s = (s ≤ 16) × (allBelow (subjectRight m) s ≡ true)
 
 abbrev μ-loop : tie.MeasureT-loop
-μ-loop m n states s₀ s = 16 - s
+μ-loop m n s₀ s = 16 - s
 
 loop-holds : tie.Need-loop-holds Inv-loop μ-loop
 loop-holds c = (search needs, all-start _)
 
 returns : tie.Need-returns Inv-loop μ-loop
-unfolding subjectRight
 returns c =
-    sym (all-stop _ _ _ (c .before .before .before .before .before .loop-test .taken) (rw (← c .before .before .kind-at .ensures) (sym (c .before .subject-valid .ensures) ∙ not-true _ (c .if1 .taken))))
+    sym (all-stop _ _ _ (c .before .before .before .before .before .loop-test .taken) (sym (kind-seen (c .before .before .before .before .before .before .before .args .t1) _) ∙ sym (c .before .subject-valid .ensures) ∙ not-true _ (c .if1 .taken)))
 
 loop-again : tie.Need-loop-again Inv-loop μ-loop
-unfolding subjectRight
 loop-again c =
-    (search needs, all-more _ _ (c .before .before .before .before .before .before .loop .inv .1) (rw (← c .before .before .kind-at .ensures) (sym (c .before .subject-valid .ensures) ∙ not-false _ (c .if1 .left))))
+    (search needs, all-more _ _ (c .before .before .before .before .before .before .loop .inv .1) (sym (kind-seen (c .before .before .before .before .before .before .before .args .t1) _) ∙ sym (c .before .subject-valid .ensures) ∙ not-false _ (c .if1 .left)))
 
 returns-2 : tie.Need-returns-2 Inv-loop μ-loop
 returns-2 c = sym (all-end _ _ _ (c .before .loop .inv .0) (c .loop-test .left) (c .before .loop .inv .1))
@@ -43,7 +42,8 @@ subjects-right-spec =
     (λ c. search needs)
     (λ c. search needs)
     (λ c. search needs)
-    (λ c κs. search needs)
+    (λ c. search needs)
+    (λ c. search needs)
     (λ c. search needs)
     (λ c κs. search needs)
     returns

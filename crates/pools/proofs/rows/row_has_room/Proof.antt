@@ -1,0 +1,29 @@
+use borrow.Author.Tests.{lt-ltb, le-ltb}
+use borrow.Author.Needs.{needs}
+use Rattle.pools.specs.Rows.{rowCount, rowHasRoom}
+use Rattle.pools.proofs.rows.row_has_room.Statement.{statement}
+use Rattle.pools.proofs.rows.row_has_room.Tie as tie
+
+returns : tie.Need-returns
+returns c = rw (le-ltb _ _ (c .if1 .taken))
+
+returns-2 : tie.Need-returns-2
+unfolding rowHasRoom rowCount
+returns-2 c =
+    let both = c .before .before .before in
+    rw (lt-ltb _ _ (both .before .before .before .before .if1 .left), c .either .ensures, c .before .before .count .ensures, both .both .ensures, both .before .fitting2 .ensures, both .before .before .fitting .ensures)
+
+pub row-has-room-spec : {M : Type 1} → statement M
+row-has-room-spec =
+    tie.close
+    (tie.spec
+    (λ c. search needs)
+    returns
+    (λ c. search needs)
+    (λ c. search needs)
+    (λ c κs. search needs)
+    (λ c κs. search needs)
+    (λ c κs. search needs)
+    (λ c κs. search needs)
+    (λ c κs. search needs)
+    returns-2)

@@ -1,0 +1,80 @@
+// Whether a pool is valid for its owner in a model of n subjects.
+ghost use mathlib.Core.Path.{_≡_};
+ghost use Prim.Native.Nat.{_<_};
+ghost use Rattle.sets.specs.Below.{allBelow};
+ghost use Rattle.pools.specs.Sizes.{mostEntries};
+ghost use Rattle.pools.specs.Valid.{entryValid, placeValid, poolValid, isBlankPool};
+use super::Entry;
+use super::MOST_ENTRIES;
+use super::Pool;
+use super::entries;
+use super::rows;
+use model::Subject;
+use sets::both;
+use sets::either;
+
+// A reservation has content 0; the sender is below n and the type below 32.
+fn entry_valid(n: u8, e: Entry) -> bool
+    ensures { λ r. ⌜ r ≡ entryValid n e ⌝ }
+{
+    both(
+        either(e.message, e.content == 0),
+        both(e.sender < n, e.typ < 32),
+    )
+}
+
+// Place i: a valid entry if the pool has one there, else blank.
+fn place_valid(n: u8, p: Pool, i: usize) -> bool
+    requires { ⌜ i < mostEntries ⌝ }
+    ensures { λ r. ⌜ r ≡ placeValid n p i ⌝ }
+{
+    let e = p.entries[i];
+    if i < p.count as usize {
+        return entry_valid(n, e);
+    }
+    entries::is_blank_entry(e)
+}
+
+// Every place is right.
+fn places_valid(n: u8, p: Pool) -> bool
+    ensures { λ r. ⌜ r ≡ allBelow (placeValid n p) mostEntries ⌝ }
+{
+    let mut i: usize = 0;
+    while i < MOST_ENTRIES {
+        if !place_valid(n, p, i) {
+            return false;
+        }
+        i += 1;
+    }
+    true
+}
+
+// The pool of an owner in a model of n subjects is valid.
+pub fn pool_valid(n: u8, owner: Subject, p: Pool) -> bool
+    ensures { λ r. ⌜ r ≡ poolValid n owner p ⌝ }
+{
+    if MOST_ENTRIES < p.count as usize {
+        return false;
+    }
+    if !places_valid(n, p) {
+        return false;
+    }
+    rows::rows_kept(owner, p)
+}
+
+// A pool of nobody: all zero.
+pub fn is_blank_pool(p: Pool) -> bool
+    ensures { λ r. ⌜ r ≡ isBlankPool p ⌝ }
+{
+    if p.count != 0 {
+        return false;
+    }
+    let mut i: usize = 0;
+    while i < MOST_ENTRIES {
+        if !entries::is_blank_entry(p.entries[i]) {
+            return false;
+        }
+        i += 1;
+    }
+    true
+}

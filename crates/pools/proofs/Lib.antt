@@ -1,1 +1,3 @@
 pub mod PoolLaws
+pub mod EntryLaws
+pub mod AppendLaws

@@ -212,6 +212,12 @@ unfolding sumBelow
 sum-add f a zero = rw (add-zero, add-zero)
 sum-add f a (suc b) = rw add-suc (omega (arith, sum-add f a b))
 
+-- a sum of sums
+pub sum-plus : (f g : ℕ → ℕ) (n : ℕ) → sumBelow (λ i. f i + g i) n ≡ sumBelow f n + sumBelow g n
+unfolding sumBelow
+sum-plus f g zero = omega arith
+sum-plus f g (suc n) = omega (arith, sum-plus f g n)
+
 -- the same number b times
 pub sum-const : (c n : ℕ) → sumBelow (λ _. c) n ≡ c * n
 unfolding sumBelow

@@ -2,7 +2,7 @@
 use mathlib.Core.Path.{_≡_, refl, sym, ap, subst, _∙_}
 use mathlib.Core.Logic.{_⊎_, inl, inr}
 use mathlib.Core.Bool.{Bool, true, false, _&&_, _||_, not, cond, and-true, and-false, or-false}
-use mathlib.Core.List.{List, [], _∷_}
+use mathlib.Core.List.{List, [], _∷_, _++_}
 use Prim.Native.Nat.{ℕ, zero, suc, _+_, _-_, _*_, _/_, _%_, _^_, _≤_, _<_}
 use native.Mathlib.Nat.{le-trans, eq-or-lt-of-le, div-eq-of-lt, div-one, mod-lt, mul-le-mul-right, mul-comm, mul-sub, zero-add, one-mul, add-zero, add-suc, suc-add, suc-mul, pow-suc}
 use native.Mathlib.Numerals.{add-one, one-add}
@@ -14,11 +14,11 @@ use lib.Dec.{eqb, ltb, lit<}
 use lib.ListN.{length}
 use lib.Pow.{pow-add, pow-mono, pow-pos, pow-lt, split, high, ones-split, shl-exact, shl-shr, shr-lt, shr-le, shr-shr}
 use Rattle.sets.specs.Below.{countBelow, tableFrom, table}
-use Rattle.sets.specs.Lists.{allOf, passing}
+use Rattle.sets.specs.Lists.{allOf, passing, folded}
 use Rattle.sets.specs.Masks.{bit, withBit, withoutBit, members, others, parted}
 use Rattle.sets.specs.Tests.{noneFrom}
-use Rattle.sets.proofs.Below.{length-table, table-at, count-bound, count-none, none-count}
-use Rattle.sets.proofs.Lists.{all-of-by, all-of-each, all-of-passing, passing-pass, passing-none, passing-twice, passing-same-where, length-passing, counted-table}
+use Rattle.sets.proofs.Below.{length-table, table-at, table-more, count-bound, count-none, none-count}
+use Rattle.sets.proofs.Lists.{all-of-by, all-of-each, all-of-passing, passing-pass, passing-none, passing-twice, passing-same-where, passing-append, length-passing, counted-table, folded-append}
 use Rattle.sets.proofs.Tests.{and-both}
 
 -- ---- masks as numbers
@@ -395,3 +395,37 @@ other-none w a b f = length-others-count w a b ∙ none-count _ w (λ k l. go (b
     go : (x y : Bool) → (x ≡ true → y ≡ true) → (x && not y) ≡ false
     go true y h = rw (h refl)
     go false y h = refl
+
+-- ---- a turn for each
+
+-- each number below w that passes has one turn, in order: what the turns keep holds after the last
+pub turns : {B : Type 0} (f : B → ℕ → B) (p : ℕ → Bool) (Q : ℕ → B → Type 0) (b : B) → Q 0 b → (w : ℕ)
+    → ((n : ℕ) (x : B) → n < w → p n ≡ true → Q n x → Q (n + 1) (f x n))
+    → ((n : ℕ) (x : B) → n < w → p n ≡ false → Q n x → Q (n + 1) x)
+    → (n : ℕ) → n ≤ w → Q n (folded f b (passing p (table (λ k. k) n)))
+unfolding folded passing tableFrom
+turns f p Q b start w turn skip zero l = start
+turns {B} f p Q b start w turn skip (suc n) l =
+    subst (λ (k : ℕ). Q k (folded f b (passing p (table (λ i. i) k)))) (add-one n)
+    (subst (Q (n + 1)) (sym split-off) (go (turns f p Q b start w turn skip n (omega arith)) (p n) refl))
+  where
+    before : B
+    before = folded f b (passing p (table (λ k. k) n))
+
+    split-off : folded f b (passing p (table (λ k. k) (n + 1))) ≡ folded f before (cond (p n) (n ∷ []) [])
+    split-off =
+        ap (λ (ks : List ℕ). folded f b (passing p ks)) (table-more (λ k. k) n)
+        ∙ ap (folded f b) (passing-append p (table (λ k. k) n) (n ∷ []))
+        ∙ folded-append f b (passing p (table (λ k. k) n)) (cond (p n) (n ∷ []) [])
+
+    go : Q n before → (t : Bool) → p n ≡ t → Q (n + 1) (folded f before (cond (p n) (n ∷ []) []))
+    go ih true e = rw e (turn n before (omega arith) e ih)
+    go ih false e = rw e (skip n before (omega arith) e ih)
+
+-- the same for the members of a that are not in b
+pub turns-others : {B : Type 0} (f : B → ℕ → B) (w a b : ℕ) (Q : ℕ → B → Type 0) (x₀ : B) → Q 0 x₀
+    → ((n : ℕ) (x : B) → n < w → (bit a n && not (bit b n)) ≡ true → Q n x → Q (n + 1) (f x n))
+    → ((n : ℕ) (x : B) → n < w → (bit a n && not (bit b n)) ≡ false → Q n x → Q (n + 1) x)
+    → Q w (folded f x₀ (others w a b))
+turns-others f w a b Q x₀ start turn skip =
+    subst (λ (ks : List ℕ). Q w (folded f x₀ ks)) (sym (others-are w a b)) (turns f (λ k. bit a k && not (bit b k)) Q x₀ start w turn skip w (omega arith))

@@ -1,0 +1,4 @@
+pub mod Good
+pub mod ModelFacts
+pub mod IndexFacts
+pub mod ValidLaws

@@ -22,6 +22,14 @@ use Rattle.sets.proofs.is_zero.Reads as is-zero-call
 use Rattle.sets.proofs.is_zero.Kinds as is-zero-call-kinds
 use Rattle.sets.proofs.none_from.Reads as none-from-call
 use Rattle.sets.proofs.none_from.Kinds as none-from-call-kinds
+use Rattle.sets.proofs.has.Reads as has-call
+use Rattle.sets.proofs.has.Kinds as has-call-kinds
+use Rattle.sets.proofs.with.Reads as with-call
+use Rattle.sets.proofs.with.Kinds as with-call-kinds
+use Rattle.sets.proofs.part.Reads as part-call
+use Rattle.sets.proofs.part.Kinds as part-call-kinds
+use Rattle.sets.proofs.missing.Reads as missing-call
+use Rattle.sets.proofs.missing.Kinds as missing-call-kinds
 use Rattle.blocks.proofs.check.Reads as check-call
 use Rattle.blocks.proofs.check.Kinds as check-call-kinds
 use Rattle.blocks.proofs.check_right.Reads as check-right-call
@@ -78,6 +86,18 @@ is-zero-one κs a x y e p q = p ∙ sym q
 
 pub none-from-one : OneResult 0 none-from-call-kinds.ps none-from-call-kinds.r none-from-call.Learnt
 none-from-one κs a x y e p q = p ∙ sym q
+
+pub has-one : OneResult 0 has-call-kinds.ps has-call-kinds.r has-call.Learnt
+has-one κs a x y e p q = p ∙ sym q
+
+pub with-one : OneResult 0 with-call-kinds.ps with-call-kinds.r with-call.Learnt
+with-one κs a x y e p q = p ∙ sym q
+
+pub part-one : OneResult 0 part-call-kinds.ps part-call-kinds.r part-call.Learnt
+part-one κs a x y e p q = p ∙ sym q
+
+pub missing-one : OneResult 0 missing-call-kinds.ps missing-call-kinds.r missing-call.Learnt
+missing-one κs a x y e p q = p ∙ sym q
 
 -- ---- files in blocks
 

@@ -2,7 +2,7 @@
 use mathlib.Core.Path.{_≡_, refl, sym, ap, subst, _∙_}
 use mathlib.Core.Logic.{_⊎_, inl, inr}
 use mathlib.Core.Bool.{Bool, true, false, _&&_, _||_, not, cond, and-true, and-false, or-false}
-use mathlib.Core.List.{List, [], _∷_, _++_}
+use mathlib.Core.List.{List, [], _∷_}
 use Prim.Native.Nat.{ℕ, zero, suc, _+_, _-_, _*_, _/_, _%_, _^_, _≤_, _<_}
 use native.Mathlib.Nat.{le-trans, eq-or-lt-of-le, div-eq-of-lt, div-one, mod-lt, mul-le-mul-right, mul-comm, mul-sub, zero-add, one-mul, add-zero, add-suc, suc-add, suc-mul, pow-suc}
 use native.Mathlib.Numerals.{add-one, one-add}

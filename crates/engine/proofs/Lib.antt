@@ -1,0 +1,12 @@
+pub mod RuleLaws
+pub mod ReserveLaws
+pub mod KeptOne
+pub mod SweepLaws
+pub mod KeptAll
+pub mod RoundLaws
+pub mod KeptReserve
+pub mod Seen
+pub mod Kept
+pub mod StepLaws
+pub mod Machine
+pub mod TapeLaws

@@ -1,0 +1,293 @@
+-- Laws of the rules of a step: the first rule that holds refuses; and which rules each command has.
+use mathlib.Core.Path.{_≡_, refl, sym, ap, subst, _∙_}
+use mathlib.Core.Logic.{_↔_}
+use mathlib.Core.Bool.{Bool, true, false, _&&_, not, cond}
+use mathlib.Core.List.{List, [], _∷_, _++_}
+use Prim.Native.Nat.{ℕ, zero, suc, _<_, suc-le-suc}
+use native.Mathlib.Nat.{not-suc-le-zero, le-of-suc-le-suc}
+use native.Mathlib.Omega.{arith}
+use borrow.Author.Tests.{ltb-true}
+use lib.Dec.{eqb, leb, ltb}
+use lib.ListN.{length}
+use Rattle.sets.specs.Tests.{within}
+use Rattle.sets.proofs.Tests.{and-both, choose}
+use Rattle.model.specs.Rules.{any}
+use Rattle.model.specs.declared.State.{State}
+use Rattle.model.specs.declared.Subject as model-subject
+use Rattle.configs.specs.Answers.{refusalOf, refused}
+use Rattle.configs.specs.Subjects.{running, isSend, at}
+use Rattle.configs.specs.declared.Config.{Config}
+use Rattle.configs.specs.declared.Stepped.{Stepped}
+use Rattle.engine.specs.Commands.{isCode}
+use Rattle.engine.specs.Effects.{wantedAt}
+use Rattle.engine.specs.Exact.{holdsAt, numberAt, FirstRule, NoRule}
+use Rattle.engine.specs.Reserve.{answered, reserving}
+use Rattle.engine.specs.Rules.{noSubject, notRunning, wrongKind, noExit, isNothing, noMessage, placeMissing, someImproper, notPlaced, improperReceiver, noTarget, tooEarly, canDeliver, sendFirst, rules, guarded}
+use Rattle.engine.specs.Steps.{effect, acts, turned}
+use Rattle.engine.specs.declared.Command.{Command}
+use Rattle.engine.specs.declared.Command.the-variants.{Do, Reserve, Deliver, Take, Run, Expire, Cancel, Tick}
+
+-- ---- any rules
+
+pub guarded-append : (c : Config) (these those : List (Bool × ℕ)) (next : Stepped) → guarded c (these ++ those) next ≡ guarded c these (guarded c those next)
+unfolding guarded
+guarded-append c [] those next = refl
+guarded-append c (rule ∷ rest) those next = ap (cond (rule .0) (refused c (rule .1))) (guarded-append c rest those next)
+
+-- what holds of the configuration before and of what comes next, holds after
+pub guarded-keeps : (P : Config → Type 0) (c : Config) (list : List (Bool × ℕ)) (next : Stepped) → P c → P (next .config) → P (guarded c list next .config)
+unfolding guarded
+guarded-keeps P c [] next now then = then
+guarded-keeps P c (rule ∷ rest) next now then =
+    choose (λ (r : Stepped). P (r .config)) (rule .0) (λ _. now) (λ _. guarded-keeps P c rest next now then)
+
+-- every number is more than the one before it, the first more than k
+unfoldable pub ascends : ℕ → List (Bool × ℕ) → Bool
+ascends k [] = true
+ascends k (rule ∷ rest) = ltb k (rule .1) && ascends (rule .1) rest
+
+-- the first that holds refuses, with its number
+pub first-refuses : (c : Config) (list : List (Bool × ℕ)) (next : Stepped) (i : ℕ) → FirstRule list i → guarded c list next ≡ refused c (numberAt list i)
+unfolding guarded
+first-refuses c [] next i f = absurd (not-suc-le-zero (f .below))
+first-refuses c (rule ∷ rest) next zero f = rw (f .holds)
+first-refuses c (rule ∷ rest) next (suc i) f =
+    rw (f .before zero (omega arith))
+    (first-refuses c rest next i (record { below = le-of-suc-le-suc (f .below); holds = f .holds; before = λ j l. f .before (suc j) (suc-le-suc l) }))
+
+-- where none holds, what comes next
+pub none-refuses : (c : Config) (list : List (Bool × ℕ)) (next : Stepped) → NoRule list → guarded c list next ≡ next
+unfolding guarded
+none-refuses c [] next f = refl
+none-refuses c (rule ∷ rest) next f =
+    rw (f .none zero (omega arith)) (none-refuses c rest next (record { none = λ j l. f .none (suc j) (suc-le-suc l) }))
+
+first-here : (rule : Bool × ℕ) (rest : List (Bool × ℕ)) → rule .0 ≡ true → FirstRule (rule ∷ rest) zero
+first-here rule rest h = record { below = omega arith; holds = h; before = λ j l. absurd (not-suc-le-zero l) }
+
+first-after : (rule : Bool × ℕ) (rest : List (Bool × ℕ)) (i : ℕ) → rule .0 ≡ false → FirstRule rest i → FirstRule (rule ∷ rest) (suc i)
+first-after rule rest i h f = record { below = suc-le-suc (f .below); holds = f .holds; before = earlier }
+  where
+    earlier : (j : ℕ) → j < suc i → holdsAt (rule ∷ rest) j ≡ false
+    earlier zero l = h
+    earlier (suc j) l = f .before j (le-of-suc-le-suc l)
+
+ascends-first : (k : ℕ) (rule : Bool × ℕ) (rest : List (Bool × ℕ)) → ascends k (rule ∷ rest) ≡ true → k < rule .1
+unfolding ascends
+ascends-first k rule rest up = ltb-true k (rule .1) (and-both (ltb k (rule .1)) (ascends (rule .1) rest) up .left)
+
+ascends-rest : (k : ℕ) (rule : Bool × ℕ) (rest : List (Bool × ℕ)) → ascends k (rule ∷ rest) ≡ true → ascends (rule .1) rest ≡ true
+unfolding ascends
+ascends-rest k rule rest up = and-both (ltb k (rule .1)) (ascends (rule .1) rest) up .right
+
+-- all of them are more than k
+ascends-at : (k : ℕ) (list : List (Bool × ℕ)) → ascends k list ≡ true → (i : ℕ) → i < length list → k < numberAt list i
+ascends-at k [] up i l = absurd (not-suc-le-zero l)
+ascends-at k (rule ∷ rest) up zero l = ascends-first k rule rest up
+ascends-at k (rule ∷ rest) up (suc i) l =
+    omega (arith, ascends-first k rule rest up, ascends-at (rule .1) rest (ascends-rest k rule rest up) i (le-of-suc-le-suc l))
+
+-- so no two rules have the same number
+one-rule :
+    (k : ℕ) (list : List (Bool × ℕ))
+    → ascends k list ≡ true
+    → (i j : ℕ)
+    → i < length list
+    → j < length list
+    → numberAt list i ≡ numberAt list j
+    → i ≡ j
+one-rule k [] up i j l m e = absurd (not-suc-le-zero l)
+one-rule k (rule ∷ rest) up zero zero l m e = refl
+one-rule k (rule ∷ rest) up zero (suc j) l m e =
+    absurd (omega (arith, ascends-at (rule .1) rest (ascends-rest k rule rest up) j (le-of-suc-le-suc m)))
+one-rule k (rule ∷ rest) up (suc i) zero l m e =
+    absurd (omega (arith, ascends-at (rule .1) rest (ascends-rest k rule rest up) i (le-of-suc-le-suc l)))
+one-rule k (rule ∷ rest) up (suc i) (suc j) l m e =
+    ap suc (one-rule (rule .1) rest (ascends-rest k rule rest up) i j (le-of-suc-le-suc l) (le-of-suc-le-suc m) e)
+
+-- a refusal with number k is by the first rule that holds, whose number is k
+pub record RefusedBy (list : List (Bool × ℕ)) (k : ℕ) : Type 0 where
+  pub rule : ℕ
+  pub first : FirstRule list rule
+  pub number : numberAt list rule ≡ k
+
+-- where what comes next is accepted, it is a rule that refuses
+refused-by :
+    (c : Config) (list : List (Bool × ℕ)) (next : Stepped) (k : ℕ)
+    → refusalOf (next .answer) ≡ 0
+    → (k ≡ 0 → ⊥)
+    → refusalOf (guarded c list next .answer) ≡ k
+    → RefusedBy list k
+unfolding guarded
+refused-by c [] next k accepted some h = absurd (some (sym h ∙ accepted))
+refused-by c (rule ∷ rest) next k accepted some h = go (rule .0) refl h (λ q. refused-by c rest next k accepted some q)
+  where
+    go :
+        (b : Bool)
+        → rule .0 ≡ b
+        → refusalOf (cond b (refused c (rule .1)) (guarded c rest next) .answer) ≡ k
+        → (refusalOf (guarded c rest next .answer) ≡ k → RefusedBy rest k)
+        → RefusedBy (rule ∷ rest) k
+    go true e q f = record { rule = zero; first = first-here rule rest e; number = q }
+    go false e q f =
+        let r = f q in
+        record { rule = suc (r .rule); first = first-after rule rest (r .rule) e (r .first); number = r .number }
+
+-- where the numbers ascend from above k, and so none is 0, what is accepted broke no rule
+accepted-none : (c : Config) (k : ℕ) (list : List (Bool × ℕ)) (next : Stepped) → ascends k list ≡ true → refusalOf (guarded c list next .answer) ≡ 0 → (j : ℕ) → holdsAt list j ≡ false
+unfolding guarded
+accepted-none c k [] next up h j = refl
+accepted-none c k (rule ∷ rest) next up h j =
+    go (rule .0) refl h (ascends-first k rule rest up) (accepted-none c (rule .1) rest next (ascends-rest k rule rest up)) j
+  where
+    go :
+        (b : Bool)
+        → rule .0 ≡ b
+        → refusalOf (cond b (refused c (rule .1)) (guarded c rest next) .answer) ≡ 0
+        → k < rule .1
+        → (refusalOf (guarded c rest next .answer) ≡ 0 → (j : ℕ) → holdsAt rest j ≡ false)
+        → (j : ℕ)
+        → holdsAt (rule ∷ rest) j ≡ false
+    go true e q l f j = absurd (omega (arith, q))
+    go false e q l f zero = e
+    go false e q l f (suc j) = f q j
+
+-- Before what is accepted: by the number a reader knows which rule held first.
+module _ (c : Config) (list : List (Bool × ℕ)) (next : Stepped) (accepted : refusalOf (next .answer) ≡ 0) where
+  refusal-is : (i : ℕ) → FirstRule list i → refusalOf (guarded c list next .answer) ≡ numberAt list i
+  refusal-is i f = ap (λ (r : Stepped). refusalOf (r .answer)) (first-refuses c list next i f)
+
+  -- the refusal is k, not 0, exactly where the first rule that holds has the number k
+  pub refusal-number : (k : ℕ) → (k ≡ 0 → ⊥) → (refusalOf (guarded c list next .answer) ≡ k) ↔ RefusedBy list k
+  refusal-number k some = (refused-by c list next k accepted some, λ r. refusal-is (r .rule) (r .first) ∙ r .number)
+
+  -- where the numbers ascend from above 0, it is that of rule i exactly where rule i is the first that holds
+  pub refusal-exact :
+      ascends 0 list ≡ true
+      → (i : ℕ)
+      → i < length list
+      → (refusalOf (guarded c list next .answer) ≡ numberAt list i) ↔ FirstRule list i
+  refusal-exact up i l = (back, refusal-is i)
+    where
+      back : refusalOf (guarded c list next .answer) ≡ numberAt list i → FirstRule list i
+      back h =
+          let positive = ascends-at 0 list up i l in
+          let r = refused-by c list next (numberAt list i) accepted (λ z. absurd (omega (arith, z))) h in
+          subst (FirstRule list) (one-rule 0 list up (r .rule) i (r .first .below) l (r .number)) (r .first)
+
+  -- and it is 0 exactly where no rule holds
+  pub accepted-exact : ascends 0 list ≡ true → (refusalOf (guarded c list next .answer) ≡ 0) ↔ NoRule list
+  accepted-exact up = (
+    λ h. record { none = λ j l. accepted-none c 0 list next up h j },
+    λ f. ap (λ (r : Stepped). refusalOf (r .answer)) (none-refuses c list next f) ∙ accepted,
+  )
+
+-- the numbers of a step do ascend, 11 to 20, and an effect is accepted
+pub rules-ascend : (n : ℕ) (here : State) (c : Config) (k : Command) → ascends 0 (rules n here c k) ≡ true
+unfolding ascends
+rules-ascend n here c k = refl
+
+pub effect-accepted :
+    (n : ℕ) (subjects : List model-subject.Subject) (here : State) (end : Bool) (c : Config) (k : Command)
+    → refusalOf (effect n subjects here end c k .answer) ≡ 0
+unfolding effect reserving answered
+effect-accepted n subjects here end c (Do s e w) = refl
+effect-accepted n subjects here end c (Reserve s) = refl
+effect-accepted n subjects here end c (Deliver s) = refl
+effect-accepted n subjects here end c (Take s e) = refl
+effect-accepted n subjects here end c (Run s) = refl
+effect-accepted n subjects here end c (Expire s) = refl
+effect-accepted n subjects here end c (Cancel s) = refl
+effect-accepted n subjects here end c Tick = refl
+
+-- ---- the rules of each command
+
+-- the end of a path, said the other way
+pub onto : {A : Type 0} {x y z : A} → x ≡ y → z ≡ y → z ≡ x
+onto p q = q ∙ sym p
+
+-- every command that names a subject: it is there, and runs
+abbrev pub asked : ℕ → Config → ℕ → Stepped → Stepped
+asked n c s next = cond (leb n s) (refused c 11) (cond (not (eqb (at c s .mode) running)) (refused c 12) next)
+
+module _ (n : ℕ) (here : State) (c : Config) (s : ℕ) (next : Stepped) where
+  pub do-rules :
+      (e w : ℕ)
+      → guarded c (rules n here c (Do s e w)) next
+      ≡ asked n c s
+      (cond (not (eqb (here .kind) 1)) (refused c 13)
+      (cond (leb (here .exits) e) (refused c 14)
+      next))
+  unfolding guarded noSubject notRunning wrongKind noExit noMessage notPlaced improperReceiver noTarget tooEarly sendFirst
+  do-rules e w = refl
+
+  pub reserve-rules :
+      guarded c (rules n here c (Reserve s)) next
+      ≡ asked n c s
+      (cond (not (isSend (here .kind))) (refused c 13)
+      next)
+  unfolding guarded noSubject notRunning wrongKind noExit noMessage notPlaced improperReceiver noTarget tooEarly sendFirst
+  reserve-rules = refl
+
+  pub deliver-rules :
+      guarded c (rules n here c (Deliver s)) next
+      ≡ asked n c s
+      (cond (not (isSend (here .kind))) (refused c 13)
+      (cond (placeMissing here c s) (refused c 16)
+      (cond (someImproper here c) (refused c 17)
+      next)))
+  unfolding guarded noSubject notRunning wrongKind noExit noMessage notPlaced improperReceiver noTarget tooEarly sendFirst
+  deliver-rules = refl
+
+  pub take-rules :
+      (e : ℕ)
+      → guarded c (rules n here c (Take s e)) next
+      ≡ asked n c s
+      (cond (not (eqb (here .kind) 3)) (refused c 13)
+      (cond (leb (here .exits) e) (refused c 14)
+      (cond (isNothing (wantedAt here e (at c s))) (refused c 15)
+      next)))
+  unfolding guarded noSubject notRunning wrongKind noExit noMessage notPlaced improperReceiver noTarget tooEarly sendFirst
+  take-rules e = refl
+
+  pub run-rules :
+      guarded c (rules n here c (Run s)) next
+      ≡ asked n c s
+      (cond (not (within 4 (here .kind) 6)) (refused c 13)
+      next)
+  unfolding guarded noSubject notRunning wrongKind noExit noMessage notPlaced improperReceiver noTarget tooEarly sendFirst
+  run-rules = refl
+
+  pub expire-rules :
+      guarded c (rules n here c (Expire s)) next
+      ≡ asked n c s
+      (cond (eqb (here .timeout) any) (refused c 18)
+      (cond (ltb (at c s .waited) (here .after)) (refused c 19)
+      (cond (canDeliver here c s) (refused c 20)
+      next)))
+  unfolding guarded noSubject notRunning wrongKind noExit noMessage notPlaced improperReceiver noTarget tooEarly sendFirst
+  expire-rules = refl
+
+  pub cancel-rules :
+      guarded c (rules n here c (Cancel s)) next
+      ≡ asked n c s
+      (cond (eqb (here .cancel) any) (refused c 18)
+      next)
+  unfolding guarded noSubject notRunning wrongKind noExit noMessage notPlaced improperReceiver noTarget tooEarly sendFirst
+  cancel-rules = refl
+
+-- Tick has none
+pub tick-rules : (n : ℕ) (here : State) (c : Config) (next : Stepped) → guarded c (rules n here c Tick) next ≡ next
+unfolding guarded noSubject notRunning wrongKind noExit noMessage notPlaced improperReceiver noTarget tooEarly sendFirst
+tick-rules n here c next = refl
+
+-- 8, 9 and 10 come first
+pub fault-rules :
+    (fault code n : ℕ) (subjects : List model-subject.Subject) (here : State) (end : Bool) (c : Config) (k : Command)
+    → turned fault code n subjects here end c k
+    ≡ cond (eqb fault 8) (refused c 8)
+    (cond (not (isCode code)) (refused c 9)
+    (cond (eqb fault 10) (refused c 10)
+    (acts n subjects here end c k)))
+unfolding turned guarded
+fault-rules fault code n subjects here end c k = refl

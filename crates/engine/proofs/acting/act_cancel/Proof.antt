@@ -1,0 +1,39 @@
+use mathlib.Core.Path.{ap, _∙_}
+use borrow.Author.Tests.{eq-eqb, ne-eqb, le-leb, lt-leb}
+use borrow.Author.Needs.{needs}
+use Rattle.configs.specs.Answers.{done}
+use Rattle.engine.proofs.RuleLaws.{onto, cancel-rules}
+use Rattle.engine.proofs.acting.act_cancel.Statement.{statement}
+use Rattle.engine.proofs.acting.act_cancel.Tie as tie
+
+returns : tie.Need-returns
+returns c = onto (cancel-rules _ _ _ _ _) (rw (le-leb _ _ (c .before .if1 .taken)) (c .refuse .ensures))
+
+returns-2 : tie.Need-returns-2
+returns-2 c = onto (cancel-rules _ _ _ _ _) (rw (lt-leb _ _ (c .before .before .before .before .if1 .left), ne-eqb _ _ (c .before .if2 .taken)) (c .refuse2 .ensures))
+
+returns-3 : tie.Need-returns-3
+returns-3 c =
+    let at = c .before .before .before in
+    onto (cancel-rules _ _ _ _ _) (rw (lt-leb _ _ (at .before .before .before .if1 .left), eq-eqb _ _ (at .if2 .left), eq-eqb _ _ (c .before .if3 .taken)) (c .refuse3 .ensures))
+
+returns-4 : tie.Need-returns-4
+returns-4 c =
+    let at = c .before .before .before .before in
+    onto (cancel-rules _ _ _ _ _) (rw (lt-leb _ _ (at .before .before .before .if1 .left), eq-eqb _ _ (at .if2 .left), ne-eqb _ _ (c .before .before .if3 .left)) (c .accept .ensures ∙ ap done (c .before .leave .ensures)))
+
+pub act-cancel-spec : {M : Type 1} → statement M
+act-cancel-spec =
+    tie.close
+    (tie.spec
+    (λ c κs. search needs)
+    returns
+    (λ c. search needs)
+    (λ c. search needs)
+    (λ c κs. search needs)
+    returns-2
+    (λ c κs. search needs)
+    returns-3
+    (λ c κs. search needs)
+    (λ c κs. search needs)
+    returns-4)

@@ -1,0 +1,48 @@
+use mathlib.Core.Path.{_≡_, sym, _∙_}
+use Prim.Native.Nat.{_≤_, _-_}
+use borrow.Author.Needs.{needs}
+use Rattle.sets.specs.Below.{changed}
+use Rattle.sets.proofs.Below.{change-start, change-end}
+use Rattle.configs.specs.Subjects.{noOne, eachSubject}
+use Rattle.engine.specs.Effects.{ticked, ticking}
+use Rattle.sets.proofs.Arrays.{length-mapped}
+use Rattle.sets.proofs.Below.{changed-turn}
+use Rattle.engine.proofs.effects.tick.Statement.{statement}
+use Rattle.engine.proofs.effects.tick.Tie as tie
+
+abbrev Inv-loop : tie.InvT-loop
+Inv-loop now₀ r₀ now r = (r ≤ 16) × (now ≡ changed (λ _ x. ticked x) noOne now₀ 16 r)
+
+abbrev μ-loop : tie.MeasureT-loop
+μ-loop now₀ r₀ now r = 16 - r
+
+loop-holds : tie.Need-loop-holds Inv-loop μ-loop
+loop-holds c = (search needs, sym (change-start _ _ _ _ (search length-mapped)))
+
+loop-again : tie.Need-loop-again Inv-loop μ-loop
+loop-again c =
+    let at = c .before .before in
+    (search needs, changed-turn _ _ _ _ _ _ _ noOne (at .loop-test .taken) (at .before .loop .inv .1) (c .tick-one .ensures))
+
+returns : tie.Need-returns Inv-loop μ-loop
+unfolding ticking eachSubject
+returns c =
+    let inv = c .before .loop .inv in
+    rw (inv .1 ∙ change-end _ _ _ _ _ (inv .0) (c .loop-test .left))
+
+pub tick-spec : {M : Type 1} → statement M
+tick-spec =
+    tie.close
+    (tie.spec
+    Inv-loop
+    μ-loop
+    loop-holds
+    (λ c. search needs)
+    (λ c. search needs)
+    (λ c κs. search needs)
+    (λ c. search needs)
+    (λ c. search needs)
+    (λ c. search needs)
+    (λ c. search needs)
+    loop-again
+    returns)

@@ -1,0 +1,66 @@
+use mathlib.Core.Path.{_≡_, sym, _∙_}
+use mathlib.Core.Bool.{Bool, false, _&&_}
+use Prim.Native.Nat.{ℕ, _≤_, _-_}
+use borrow.Author.Needs.{needs}
+use lib.Dec.{eqb}
+use Rattle.sets.specs.Below.{someBelow}
+use Rattle.sets.specs.Masks.{bit}
+use Rattle.sets.proofs.Below.{some-start, some-more, some-found, some-end}
+use Rattle.model.specs.declared.State.{State}
+use Rattle.configs.specs.Subjects.{endedImproperly, at}
+use Rattle.configs.specs.declared.Config.{Config}
+use Rattle.engine.specs.Rules.{someImproper}
+use Rattle.engine.proofs.rules.some_improper.Statement.{statement}
+use Rattle.engine.proofs.rules.some_improper.Tie as tie
+
+-- receiver r has ended improperly
+abbrev test : State → Config → ℕ → Bool
+test here c r = bit (here .receivers) r && eqb (at c r .mode) endedImproperly
+
+abbrev Inv-loop : tie.InvT-loop
+Inv-loop here c r₀ r = (r ≤ 16) × (someBelow (test here c) r ≡ false)
+
+abbrev μ-loop : tie.MeasureT-loop
+μ-loop here c r₀ r = 16 - r
+
+loop-holds : tie.Need-loop-holds Inv-loop μ-loop
+loop-holds c = (search needs, some-start (test (c .args .here) (c .args .t2)))
+
+told : (c : tie.After-both Inv-loop μ-loop) →
+    let s = c .before .before .before .before .before .before in c .both .result ≡ test (s .args .here) (s .args .t2) (c .before .before .before .before .before .loop .r)
+told c = rw (c .both .ensures, c .before .before .has .ensures)
+
+returns : tie.Need-returns Inv-loop μ-loop
+unfolding someImproper
+returns c =
+    let s = c .before .before .before .before .before .before .before in
+    sym (some-found (test (s .args .here) (s .args .t2)) _ _ (c .before .before .before .before .before .loop-test .taken) (sym (told (c .before)) ∙ c .if1 .taken))
+
+loop-again : tie.Need-loop-again Inv-loop μ-loop
+loop-again c =
+    let s = c .before .before .before .before .before .before .before in
+    (search needs, some-more (test (s .args .here) (s .args .t2)) _ (c .before .before .before .before .before .before .loop .inv .1) (sym (told (c .before)) ∙ c .if1 .left))
+
+returns-2 : tie.Need-returns-2 Inv-loop μ-loop
+unfolding someImproper
+returns-2 c =
+    let s = c .before .before in
+    sym (some-end (test (s .args .here) (s .args .t2)) _ _ (c .before .loop .inv .0) (c .loop-test .left) (c .before .loop .inv .1))
+
+pub some-improper-spec : {M : Type 1} → statement M
+some-improper-spec =
+    tie.close
+    (tie.spec
+    Inv-loop
+    μ-loop
+    loop-holds
+    (λ c. search needs)
+    (λ c. search needs)
+    (λ c. search needs)
+    (λ c κs. search needs)
+    (λ c κs. search needs)
+    returns
+    (λ c. search needs)
+    (λ c. search needs)
+    loop-again
+    returns-2)

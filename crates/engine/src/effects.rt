@@ -1,0 +1,210 @@
+// What the accepted commands do to the configuration, Reserve aside.
+ghost use mathlib.Core.Path.{_≡_};
+ghost use Prim.Native.Nat.{_<_};
+ghost use Rattle.sets.specs.declared.Found.the-variants.{At};
+ghost use Rattle.model.specs.Sizes.{mostSubjects};
+ghost use Rattle.model.specs.Valid.{exitAt};
+ghost use Rattle.pools.specs.Pools.{withdrawnFrom};
+ghost use Rattle.configs.specs.Subjects.{withPool};
+ghost use Rattle.engine.specs.Effects.{targetOf, enters, doing, started, deliveredAs, delivering, takingAt, runningOn, withdrawing, leaving, ticked, ticking};
+use super::Command;
+use super::marks;
+use configs::Config;
+use configs::Subject;
+use model::Exit;
+use model::MOST_EXITS;
+use model::MOST_SUBJECTS;
+use model::State;
+
+// Exit e of a state, blank past the last place.
+pub(crate) fn exit_of(here: State, e: u8) -> Exit
+    ensures { λ r. ⌜ r ≡ exitAt here e ⌝ }
+{
+    let i = e as usize;
+    if i < MOST_EXITS {
+        return here.exit[i];
+    }
+    Exit {
+        target: 0,
+        sender: 0,
+        typ: 0,
+    }
+}
+
+// Where the command leads from here; Reserve and Tick lead nowhere.
+pub(crate) fn target(here: State, x: Subject, k: Command) -> u8
+    ensures { λ r. ⌜ r ≡ targetOf here x k ⌝ }
+{
+    match k {
+        Command::Do {
+            subject: _,
+            exit,
+            word: _,
+        } => exit_of(here, exit).target,
+        Command::Reserve { subject: _ } => 0,
+        Command::Deliver { subject: _ } => exit_of(here, 0).target,
+        Command::Take { subject: _, exit } => exit_of(here, exit).target,
+        Command::Run { subject: _ } => exit_of(here, marks::run_exit(here, x)).target,
+        Command::Expire { subject: _ } => here.timeout,
+        Command::Cancel { subject: _ } => here.cancel,
+        Command::Tick => 0,
+    }
+}
+
+// Subject s enters a state.
+fn enter_at(c: Config, s: u8, t: u8, end: bool) -> Config
+    requires { ⌜ s < mostSubjects ⌝ }
+    ensures { λ r. ⌜ r ≡ enters c s t end ⌝ }
+{
+    let i = s as usize;
+    let x = c.subjects[i];
+    let mut d = c;
+    d.subjects[i] = x.enter(t, end);
+    d
+}
+
+// Do: the word is set, the exit's target entered.
+pub(crate) fn do_exit(here: State, end: bool, c: Config, s: u8, e: u8, word: u32) -> Config
+    requires { ⌜ s < mostSubjects ⌝ }
+    ensures { λ r. ⌜ r ≡ doing here end c s e word ⌝ }
+{
+    let i = s as usize;
+    let mut x = c.subjects[i];
+    x.word = word;
+    let mut d = c;
+    d.subjects[i] = x.enter(exit_of(here, e).target, end);
+    d
+}
+
+// Asleep or ended properly, a receiver starts at its initial state; its marks and pool stay.
+fn start(initial: u8, x: Subject) -> Subject
+    ensures { λ r. ⌜ r ≡ started initial x ⌝ }
+{
+    if !sets::either(x.mode == 0, x.mode == 2) {
+        return x;
+    }
+    let mut y = x;
+    y.mode = 1;
+    y.state = initial;
+    y.waited = 0;
+    y.word = 0;
+    y.mask = 0;
+    y
+}
+
+// One subject as s delivers: reservations become messages, and a receiver starts.
+fn deliver_to(receives: bool, initial: u8, s: u8, word: u32, x: Subject) -> Subject
+    ensures { λ r. ⌜ r ≡ deliveredAs receives initial s word x ⌝ }
+{
+    let mut y = x;
+    y.pool = pools::deliver(x.pool, s, word);
+    if receives {
+        return start(initial, y);
+    }
+    y
+}
+
+// Deliver: in every pool the sender's reservations become messages, receivers start, then the sender enters the target.
+pub(crate) fn deliver(
+    subjects: [model::Subject; MOST_SUBJECTS],
+    here: State,
+    end: bool,
+    c: Config,
+    s: u8,
+) -> Config
+    requires { ⌜ s < mostSubjects ⌝ }
+    ensures { λ r. ⌜ r ≡ delivering subjects here end c s ⌝ }
+{
+    let i = s as usize;
+    let word = c.subjects[i].word;
+    let mut now = c.subjects;
+    let mut r: usize = 0;
+    while r < MOST_SUBJECTS {
+        let receives = sets::has(here.receivers, r as u8);
+        now[r] = deliver_to(receives, subjects[r].initial, s, word, now[r]);
+        r += 1;
+    }
+    enter_at(Config { subjects: now }, s, exit_of(here, 0).target, end)
+}
+
+// Take: the message at place i is removed, its content becomes the word, the target is entered.
+pub(crate) fn take(here: State, end: bool, c: Config, s: u8, e: u8, i: usize) -> Config
+    requires { ⌜ s < mostSubjects ⌝ }
+    ensures { λ r. ⌜ r ≡ takingAt (At i) here end c s e ⌝ }
+{
+    let j = s as usize;
+    let me = c.subjects[j];
+    let taken = pools::take_at(me.pool, i);
+    let rest = taken.pool;
+    let mut x = me;
+    x.word = taken.content;
+    x.pool = rest;
+    let mut d = c;
+    d.subjects[j] = x.enter(exit_of(here, e).target, end);
+    d
+}
+
+// Run: close marks, open unmarks, ask-empty looks; then the exit's target is entered.
+pub(crate) fn run_state(n: u8, here: State, end: bool, c: Config, s: u8) -> Config
+    requires { ⌜ s < mostSubjects ⌝ }
+    ensures { λ r. ⌜ r ≡ runningOn n here end c s ⌝ }
+{
+    let i = s as usize;
+    let x = c.subjects[i];
+    let e = marks::run_exit(here, x);
+    let y = marks::mark(n, here, x);
+    let mut d = c;
+    d.subjects[i] = y.enter(exit_of(here, e).target, end);
+    d
+}
+
+// One subject as s withdraws.
+fn withdraw_at(s: u8, x: Subject) -> Subject
+    ensures { λ r. ⌜ r ≡ withPool (withdrawnFrom s (x .pool)) x ⌝ }
+{
+    let mut y = x;
+    y.pool = pools::withdraw(x.pool, s);
+    y
+}
+
+// Expire and Cancel: own reservations are withdrawn from all pools, then the target is entered.
+pub(crate) fn leave(t: u8, end: bool, c: Config, s: u8) -> Config
+    requires { ⌜ s < mostSubjects ⌝ }
+    ensures { λ r. ⌜ r ≡ leaving t end c s ⌝ }
+{
+    let mut now = c.subjects;
+    let mut r: usize = 0;
+    while r < MOST_SUBJECTS {
+        now[r] = withdraw_at(s, now[r]);
+        r += 1;
+    }
+    enter_at(Config { subjects: now }, s, t, end)
+}
+
+// A running subject has waited one more, up to 65,535.
+fn tick_one(x: Subject) -> Subject
+    ensures { λ r. ⌜ r ≡ ticked x ⌝ }
+{
+    if x.mode != 1 {
+        return x;
+    }
+    if x.waited == 65535 {
+        return x;
+    }
+    let mut y = x;
+    y.waited = x.waited + 1;
+    y
+}
+
+// Tick: every running subject has waited one more.
+pub(crate) fn tick(c: Config) -> Config
+    ensures { λ r. ⌜ r ≡ ticking c ⌝ }
+{
+    let mut now = c.subjects;
+    let mut r: usize = 0;
+    while r < MOST_SUBJECTS {
+        now[r] = tick_one(now[r]);
+        r += 1;
+    }
+    Config { subjects: now }
+}

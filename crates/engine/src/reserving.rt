@@ -1,0 +1,141 @@
+// Reserve: each receiver that has no place yet answers, from the lowest number.
+ghost use mathlib.Core.Path.{_≡_};
+ghost use Prim.Native.Nat.{_<_};
+ghost use Rattle.model.specs.Sizes.{mostSubjects};
+ghost use Rattle.engine.specs.Reserve.{isClosed, replyOf, withPlace, noted, reserving};
+use super::Places;
+use super::Reply;
+use super::effects;
+use configs::Answer;
+use configs::Config;
+use configs::Stepped;
+use configs::Subject;
+use model::MOST_SUBJECTS;
+use model::State;
+use pools::Entry;
+
+// The queue is closed for this sender and type.
+fn is_closed(x: Subject, sender: u8, typ: u8) -> bool
+    requires { ⌜ sender < mostSubjects ⌝ }
+    ensures { λ r. ⌜ r ≡ isClosed x sender typ ⌝ }
+{
+    let mark = x.closed[sender as usize];
+    if typ < 32 {
+        return (mark >> typ) % 2 == 1;
+    }
+    false
+}
+
+// What a receiver answers: ended improperly, else closed, else full, else there is a place.
+fn reply_of(own: model::Subject, x: Subject, sender: u8, typ: u8) -> Reply
+    requires { ⌜ sender < mostSubjects ⌝ }
+    ensures { λ r. ⌜ r ≡ replyOf own x sender typ ⌝ }
+{
+    if x.mode == 3 {
+        return Reply::Improper;
+    }
+    if is_closed(x, sender, typ) {
+        return Reply::Closed;
+    }
+    if !pools::has_room(own, x.pool, sender, typ) {
+        return Reply::Full;
+    }
+    Reply::Placed
+}
+
+// Where there is a place, a reservation is put at the end of the pool.
+fn with_place(reply: Reply, sender: u8, typ: u8, x: Subject) -> Subject
+    ensures { λ r. ⌜ r ≡ withPlace reply sender typ x ⌝ }
+{
+    match reply {
+        Reply::Placed => {
+            let mut y = x;
+            y.pool = pools::append(
+                x.pool,
+                Entry {
+                    sender: sender,
+                    typ: typ,
+                    message: false,
+                    content: 0,
+                },
+            );
+            y
+        }
+        Reply::Improper => x,
+        Reply::Closed => x,
+        Reply::Full => x,
+    }
+}
+
+// The receiver is noted in the mask of its answer.
+fn note(reply: Reply, r: u8, places: Places) -> Places
+    requires { ⌜ r < mostSubjects ⌝ }
+    ensures { λ q. ⌜ q ≡ noted reply r places ⌝ }
+{
+    let mut p = places;
+    match reply {
+        Reply::Placed => {
+            p.mask = sets::with(p.mask, r);
+            p.placed = sets::with(p.placed, r);
+            p
+        }
+        Reply::Improper => {
+            p.improper = sets::with(p.improper, r);
+            p
+        }
+        Reply::Closed => {
+            p.closed = sets::with(p.closed, r);
+            p
+        }
+        Reply::Full => {
+            p.full = sets::with(p.full, r);
+            p
+        }
+    }
+}
+
+// The turns of all receivers that are not in the sender's mask, and what comes of them.
+pub(crate) fn reserve(
+    subjects: [model::Subject; MOST_SUBJECTS],
+    here: State,
+    c: Config,
+    s: u8,
+) -> Stepped
+    requires { ⌜ s < mostSubjects ⌝ }
+    ensures { λ r. ⌜ r ≡ reserving subjects here c s ⌝ }
+{
+    let typ = effects::exit_of(here, 0).typ;
+    let i = s as usize;
+    let before = c.subjects[i].mask;
+    let mut now = c.subjects;
+    let mut places = Places {
+        mask: before,
+        placed: 0,
+        improper: 0,
+        closed: 0,
+        full: 0,
+    };
+    let mut left = here.receivers & !before;
+    while left != 0 {
+        let p = sets::part(left);
+        let r = p.first as usize;
+        let x = now[r];
+        let reply = reply_of(subjects[r], x, s, typ);
+        now[r] = with_place(reply, s, typ, x);
+        places = note(reply, p.first, places);
+        left = p.rest;
+    }
+    let mut me = now[i];
+    me.mask = places.mask;
+    now[i] = me;
+    Stepped {
+        config: Config { subjects: now },
+        answer: Answer::Reserved {
+            placed: places.placed,
+            improper: places.improper,
+            closed: places.closed,
+            full: places.full,
+            missing: sets::missing(here.receivers, places.mask),
+        },
+    }
+}

@@ -1,0 +1,101 @@
+-- From a fresh start every command leads to a valid configuration.
+use mathlib.Core.Path.{_≡_}
+use mathlib.Core.Logic.{_≢_}
+use mathlib.Core.Bool.{true, not}
+use mathlib.Core.List.{List, [], _∷_}
+use Prim.Native.Nat.{ℕ, zero, suc}
+use Rattle.model.specs.Valid.{valid}
+use Rattle.model.specs.declared.Model.{Model}
+use Rattle.configs.specs.Answers.{refusalOf}
+use Rattle.configs.specs.Fresh.{freshConfig}
+use Rattle.configs.specs.Subjects.{Held}
+use Rattle.configs.specs.Valid.{configValid}
+use Rattle.configs.specs.declared.Config.{Config}
+use Rattle.configs.proofs.ValidLaws.{fresh-held, fresh-valid}
+use Rattle.engine.specs.Commands.{isCode, codeIn, commandIn}
+use Rattle.engine.specs.Exact.{rulesOf, codedRules}
+use Rattle.engine.specs.Steps.{acted, stepped, codedAs, codedStep}
+use Rattle.engine.specs.Tapes.{bytesAt, after}
+use Rattle.engine.specs.declared.Command.{Command}
+use Rattle.engine.proofs.Kept.{kept}
+use Rattle.engine.proofs.RuleLaws.{guarded-keeps}
+use Rattle.engine_promises.specs.Runs.{runFrom}
+use Rattle.engine_promises.proofs.Refusals.{same-after, effectOf, effect-fine, step-is, coded-is}
+
+-- ---- refused: nothing changes
+
+pub refused-keeps : (m : Model) (c : Config) (k : Command) → refusalOf (stepped m c k .answer) ≢ 0 → stepped m c k .config ≡ c
+refused-keeps m c k some =
+    rw (step-is m c k) (same-after c (rulesOf m c k) (effectOf m c k) (effect-fine m c k) (rw (step-is m c k) at some))
+
+pub coded-refused-keeps : (m : Model) (c : Config) (b : List ℕ) → refusalOf (codedStep m c b .answer) ≢ 0 → codedStep m c b .config ≡ c
+coded-refused-keeps m c b some =
+    rw (coded-is m c b)
+    (same-after c (codedRules m c b) (effectOf m c (commandIn b)) (effect-fine m c (commandIn b)) (rw (coded-is m c b) at some))
+
+-- ---- a step keeps validity
+
+-- valid, and one that the machine can hold
+record Sane (m : Model) (c : Config) : Type 0 where
+  right : configValid m c ≡ true
+  held : Held c
+
+module _ (m : Model) (v : valid m ≡ true) where
+  acted-sane : (c : Config) (k : Command) → Sane m c → Sane m (acted m c k .config)
+  acted-sane c k g = let r = kept m c k v (g .held) (g .right) in record { right = r .0; held = r .1 }
+
+  step-sane : (c : Config) (k : Command) → Sane m c → Sane m (stepped m c k .config)
+  unfolding stepped
+  step-sane c k g =
+      guarded-keeps (Sane m) c ((not (valid m), 8) ∷ (not (configValid m c), 10) ∷ []) (acted m c k) g (acted-sane c k g)
+
+  coded-sane : (c : Config) (b : List ℕ) → Sane m c → Sane m (codedStep m c b .config)
+  unfolding codedAs
+  coded-sane c b g =
+      guarded-keeps
+      (Sane m)
+      c
+      ((not (valid m), 8) ∷ (not (isCode (codeIn b)), 9) ∷ (not (configValid m c), 10) ∷ [])
+      (acted m c (commandIn b))
+      g
+      (acted-sane c (commandIn b) g)
+
+  run-sane : (c : Config) (ks : List Command) → Sane m c → Sane m (runFrom m c ks)
+  unfolding runFrom
+  run-sane c [] g = g
+  run-sane c (k ∷ ks) g = run-sane (stepped m c k .config) ks (step-sane c k g)
+
+  tape-sane : (c : Config) (tape : List ℕ) (i : ℕ) → Sane m c → Sane m (after m c tape i)
+  unfolding after
+  tape-sane c tape zero g = g
+  tape-sane c tape (suc i) g = coded-sane (after m c tape i) (bytesAt tape i) (tape-sane c tape i g)
+
+  fresh-sane : Sane m (freshConfig m)
+  fresh-sane = record { right = fresh-valid m v; held = fresh-held m }
+
+-- ---- the same in terms of the definitions alone
+
+pub fresh-is-valid : (m : Model) → valid m ≡ true → configValid m (freshConfig m) ≡ true
+fresh-is-valid m v = fresh-sane m v .right
+
+module _ (m : Model) (c : Config) (k : Command) (v : valid m ≡ true) (h : Held c) (g : configValid m c ≡ true) where
+  pub step-keeps : configValid m (stepped m c k .config) ≡ true
+  step-keeps = step-sane m v c k (record { right = g; held = h }) .right
+
+  pub step-held : Held (stepped m c k .config)
+  step-held = step-sane m v c k (record { right = g; held = h }) .held
+
+module _ (m : Model) (v : valid m ≡ true) where
+  -- after any commands
+  pub always-valid : (ks : List Command) → configValid m (runFrom m (freshConfig m) ks) ≡ true
+  always-valid ks = run-sane m v (freshConfig m) ks (fresh-sane m v) .right
+
+  pub always-held : (ks : List Command) → Held (runFrom m (freshConfig m) ks)
+  always-held ks = run-sane m v (freshConfig m) ks (fresh-sane m v) .held
+
+  -- after the first i commands of any tape
+  pub always-valid-coded : (tape : List ℕ) (i : ℕ) → configValid m (after m (freshConfig m) tape i) ≡ true
+  always-valid-coded tape i = tape-sane m v (freshConfig m) tape i (fresh-sane m v) .right
+
+  pub always-held-coded : (tape : List ℕ) (i : ℕ) → Held (after m (freshConfig m) tape i)
+  always-held-coded tape i = tape-sane m v (freshConfig m) tape i (fresh-sane m v) .held

@@ -1,0 +1,6 @@
+pub mod Pools
+pub mod Places
+pub mod Refusals
+pub mod Steps
+pub mod Always
+pub mod One

@@ -1,0 +1,4 @@
+pub mod Runs
+pub mod Exact
+pub mod Moves
+pub mod Reserves

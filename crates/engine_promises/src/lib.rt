@@ -1,0 +1,1 @@
+// What is promised of configurations and steps, as theorems. No code.

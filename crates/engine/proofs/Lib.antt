@@ -1,6 +1,7 @@
 pub mod RuleLaws
 pub mod ReserveLaws
 pub mod KeptOne
+pub mod StillLaws
 pub mod SweepLaws
 pub mod KeptAll
 pub mod RoundLaws

@@ -226,7 +226,7 @@ fn act(
         Command::Run { subject } => act_run(n, here, end, c, subject),
         Command::Expire { subject } => act_expire(n, here, end, c, subject),
         Command::Cancel { subject } => act_cancel(n, here, end, c, subject),
-        Command::Tick => accept(effects::tick(c)),
+        Command::Tick => accept(effects::tick(n, c)),
     }
 }
 

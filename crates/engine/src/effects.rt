@@ -1,12 +1,12 @@
 // What the accepted commands do to the configuration, Reserve aside.
 ghost use mathlib.Core.Path.{_≡_};
-ghost use Prim.Native.Nat.{_<_};
+ghost use Prim.Native.Nat.{_+_, _<_, _≤_, min};
 ghost use Rattle.sets.specs.declared.Found.the-variants.{At};
 ghost use Rattle.model.specs.Sizes.{mostSubjects};
 ghost use Rattle.model.specs.Valid.{exitAt};
 ghost use Rattle.pools.specs.Pools.{withdrawnFrom};
 ghost use Rattle.configs.specs.Subjects.{withPool};
-ghost use Rattle.engine.specs.Effects.{targetOf, enters, doing, started, deliveredAs, delivering, takingAt, runningOn, withdrawing, leaving, ticked, ticking};
+ghost use Rattle.engine.specs.Effects.{targetOf, enters, doing, started, deliveredAs, delivering, takingAt, runningOn, withdrawing, leaving, ticking};
 use super::Command;
 use super::marks;
 use configs::Config;
@@ -57,8 +57,8 @@ fn enter_at(c: Config, s: u8, t: u8, end: bool) -> Config
     ensures { λ r. ⌜ r ≡ enters c s t end ⌝ }
 {
     let i = s as usize;
-    let x = c.subjects[i];
     let mut d = c;
+    let x = d.subjects[i];
     d.subjects[i] = x.enter(t, end);
     d
 }
@@ -69,9 +69,9 @@ pub(crate) fn do_exit(here: State, end: bool, c: Config, s: u8, e: u8, word: u32
     ensures { λ r. ⌜ r ≡ doing here end c s e word ⌝ }
 {
     let i = s as usize;
-    let mut x = c.subjects[i];
-    x.word = word;
     let mut d = c;
+    let mut x = d.subjects[i];
+    x.word = word;
     d.subjects[i] = x.enter(exit_of(here, e).target, end);
     d
 }
@@ -116,15 +116,19 @@ pub(crate) fn deliver(
     ensures { λ r. ⌜ r ≡ delivering subjects here end c s ⌝ }
 {
     let i = s as usize;
-    let word = c.subjects[i].word;
-    let mut now = c.subjects;
+    let mut d = c;
+    let word = d.subjects[i].word;
     let mut r: usize = 0;
     while r < MOST_SUBJECTS {
         let receives = sets::has(here.receivers, r as u8);
-        now[r] = deliver_to(receives, subjects[r].initial, s, word, now[r]);
+        let x = d.subjects[r];
+        let p = x.pool;
+        if sets::either(receives, p.count != 0) {
+            d.subjects[r] = deliver_to(receives, subjects[r].initial, s, word, x);
+        }
         r += 1;
     }
-    enter_at(Config { subjects: now }, s, exit_of(here, 0).target, end)
+    enter_at(d, s, exit_of(here, 0).target, end)
 }
 
 // Take: the message at place i is removed, its content becomes the word, the target is entered.
@@ -133,13 +137,13 @@ pub(crate) fn take(here: State, end: bool, c: Config, s: u8, e: u8, i: usize) ->
     ensures { λ r. ⌜ r ≡ takingAt (At i) here end c s e ⌝ }
 {
     let j = s as usize;
-    let me = c.subjects[j];
+    let mut d = c;
+    let me = d.subjects[j];
     let taken = pools::take_at(me.pool, i);
     let rest = taken.pool;
     let mut x = me;
     x.word = taken.content;
     x.pool = rest;
-    let mut d = c;
     d.subjects[j] = x.enter(exit_of(here, e).target, end);
     d
 }
@@ -150,10 +154,10 @@ pub(crate) fn run_state(n: u8, here: State, end: bool, c: Config, s: u8) -> Conf
     ensures { λ r. ⌜ r ≡ runningOn n here end c s ⌝ }
 {
     let i = s as usize;
-    let x = c.subjects[i];
+    let mut d = c;
+    let x = d.subjects[i];
     let e = marks::run_exit(here, x);
     let y = marks::mark(n, here, x);
-    let mut d = c;
     d.subjects[i] = y.enter(exit_of(here, e).target, end);
     d
 }
@@ -172,39 +176,56 @@ pub(crate) fn leave(t: u8, end: bool, c: Config, s: u8) -> Config
     requires { ⌜ s < mostSubjects ⌝ }
     ensures { λ r. ⌜ r ≡ leaving t end c s ⌝ }
 {
-    let mut now = c.subjects;
+    let mut d = c;
     let mut r: usize = 0;
     while r < MOST_SUBJECTS {
-        now[r] = withdraw_at(s, now[r]);
+        let x = d.subjects[r];
+        let p = x.pool;
+        if p.count != 0 {
+            d.subjects[r] = withdraw_at(s, x);
+        }
         r += 1;
     }
-    enter_at(Config { subjects: now }, s, t, end)
+    enter_at(d, s, t, end)
 }
 
-// A running subject has waited one more, up to 65,535.
-fn tick_one(x: Subject) -> Subject
-    ensures { λ r. ⌜ r ≡ ticked x ⌝ }
+// 16, whatever n: a number that the compiler cannot foresee. With 16 itself it takes the loop apart, and with it every
+// copy of a configuration.
+fn bound(n: u8) -> usize
+    requires { ⌜ n ≤ mostSubjects ⌝ }
+    ensures { λ r. ⌜ r ≡ mostSubjects ⌝ }
 {
-    if x.mode != 1 {
-        return x;
+    let most = n as usize;
+    if most < MOST_SUBJECTS {
+        return MOST_SUBJECTS;
     }
-    if x.waited == 65535 {
-        return x;
+    most
+}
+
+// One tick more, up to 65,535.
+fn one_more(waited: u16) -> u16
+    ensures { λ r. ⌜ r ≡ min (waited + 1) 65535 ⌝ }
+{
+    if waited == 65535 {
+        return waited;
     }
-    let mut y = x;
-    y.waited = x.waited + 1;
-    y
+    waited + 1
 }
 
 // Tick: every running subject has waited one more.
-pub(crate) fn tick(c: Config) -> Config
+pub(crate) fn tick(n: u8, c: Config) -> Config
+    requires { ⌜ n ≤ mostSubjects ⌝ }
     ensures { λ r. ⌜ r ≡ ticking c ⌝ }
 {
-    let mut now = c.subjects;
+    let most = bound(n);
+    let mut d = c;
     let mut r: usize = 0;
-    while r < MOST_SUBJECTS {
-        now[r] = tick_one(now[r]);
+    while r < most {
+        if d.subjects[r].mode == 1 {
+            let waited = one_more(d.subjects[r].waited);
+            d.subjects[r].waited = waited;
+        }
         r += 1;
     }
-    Config { subjects: now }
+    d
 }

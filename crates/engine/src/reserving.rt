@@ -106,8 +106,8 @@ pub(crate) fn reserve(
 {
     let typ = effects::exit_of(here, 0).typ;
     let i = s as usize;
-    let before = c.subjects[i].mask;
-    let mut now = c.subjects;
+    let mut d = c;
+    let before = d.subjects[i].mask;
     let mut places = Places {
         mask: before,
         placed: 0,
@@ -119,17 +119,15 @@ pub(crate) fn reserve(
     while left != 0 {
         let p = sets::part(left);
         let r = p.first as usize;
-        let x = now[r];
+        let x = d.subjects[r];
         let reply = reply_of(subjects[r], x, s, typ);
-        now[r] = with_place(reply, s, typ, x);
+        d.subjects[r] = with_place(reply, s, typ, x);
         places = note(reply, p.first, places);
         left = p.rest;
     }
-    let mut me = now[i];
-    me.mask = places.mask;
-    now[i] = me;
+    d.subjects[i].mask = places.mask;
     Stepped {
-        config: Config { subjects: now },
+        config: d,
         answer: Answer::Reserved {
             placed: places.placed,
             improper: places.improper,

@@ -1,11 +1,12 @@
 // Whether a model is valid: every rule kept, all other room zero.
 ghost use mathlib.Core.Path.{_≡_};
 ghost use mathlib.Core.Bool.{_&&_};
-ghost use Prim.Native.Nat.{_<_};
-ghost use lib.Dec.{leb};
+ghost use Prim.Native.Nat.{_<_, _+_, _*_};
+ghost use lib.Dec.{eqb};
 ghost use Rattle.sets.specs.Below.{allBelow};
-ghost use Rattle.model.specs.Sizes.{mostSubjects, statePlaces, mostExits, mostExitsInAll, mostRows};
-ghost use Rattle.model.specs.Valid.{isBlankState, isEmptyState, exitValid, stateValid, rowKey, rowAscends, rowValid, stateOwn, subjectOwn, subjectValid, subjectRight, stateRight, startRight, exitsInAll, valid};
+ghost use Rattle.model.specs.Sizes.{mostExits, mostRows};
+ghost use Rattle.model.specs.Rules.{stateFits, stateReaches};
+ghost use Rattle.model.specs.Valid.{exitAt, isBlankExit, isBlankState, exitValid, rowKey, rowAscends, rowValid, subjectOwn, subjectValid, startRight, valid};
 use super::Model;
 use super::Row;
 use super::State;
@@ -16,23 +17,7 @@ use super::sizes::MOST_EXITS_IN_ALL;
 use super::sizes::MOST_ROWS;
 use super::sizes::MOST_STATES;
 use super::sizes::MOST_SUBJECTS;
-use super::sizes::STATE_PLACES;
 use sets::both;
-
-// Nothing but zeros, the exits aside.
-fn is_blank_state(st: State) -> bool
-    ensures { λ r. ⌜ r ≡ isBlankState st ⌝ }
-{
-    let a = both(
-        both(both(st.kind == 0, st.exits == 0), st.sender == 0),
-        st.typ == 0,
-    );
-    let b = both(
-        both(both(st.after == 0, st.timeout == 0), st.cancel == 0),
-        st.receivers == 0,
-    );
-    both(a, b)
-}
 
 // Exit x of a state: right if the state has it, else blank.
 fn exit_valid(n: u8, states: u8, st: State, x: usize) -> bool
@@ -49,21 +34,11 @@ fn exit_valid(n: u8, states: u8, st: State, x: usize) -> bool
     both(both(e.target == 0, e.sender == 0), e.typ == 0)
 }
 
-// The fields of the state with number t of a subject with so many states: right if the subject has it, else blank.
-fn state_own(n: u8, states: u8, t: u8, st: State) -> bool
-    ensures { λ r. ⌜ r ≡ stateOwn n states t st ⌝ }
+// A state that is there, of a subject with so many states, with its exits.
+fn state_valid(n: u8, states: u8, st: State) -> bool
+    ensures { λ r. ⌜ r ≡ (stateFits st && stateReaches n states st && allBelow (exitValid n states st) mostExits) ⌝ }
 {
-    if t < states {
-        return both(rules::state_fits(st), rules::state_reaches(n, states, st));
-    }
-    is_blank_state(st)
-}
-
-// The same with its exits.
-fn state_valid(n: u8, states: u8, t: u8, st: State) -> bool
-    ensures { λ r. ⌜ r ≡ stateValid n states t st ⌝ }
-{
-    if !state_own(n, states, t, st) {
+    if !both(rules::state_fits(st), rules::state_reaches(n, states, st)) {
         return false;
     }
     let mut x = 0;
@@ -137,68 +112,71 @@ fn subject_valid(n: u8, s: u8, sub: Subject, kind: u8) -> bool
     true
 }
 
-// Every subject is right.
-fn subjects_right(m: Model) -> bool
-    ensures { λ r. ⌜ r ≡ allBelow (subjectRight m) mostSubjects ⌝ }
+// Eight bytes as one number, low first: the compiler reads them at once.
+fn eight(a: u8, b: u8, c: u8, d: u8, e: u8, f: u8, g: u8, h: u8) -> u64
+    ensures { λ r. ⌜ r ≡ a + 256 * b + 65536 * c + 16777216 * d + 4294967296 * e + 1099511627776 * f + 281474976710656 * g + 72057594037927936 * h ⌝ }
 {
-    let n = m.n;
-    let mut s: usize = 0;
-    while s < MOST_SUBJECTS {
-        let sub = m.subjects[s];
-        let first = m.states[s * MOST_STATES + (sub.initial % 32) as usize];
-        if !subject_valid(n, s as u8, sub, first.kind) {
-            return false;
-        }
-        s += 1;
-    }
-    true
+    let low = a as u64 + 256 * (b as u64) + 65536 * (c as u64) + 16777216 * (d as u64);
+    let mid = low + 4294967296 * (e as u64) + 1099511627776 * (f as u64);
+    mid + 281474976710656 * (g as u64) + 72057594037927936 * (h as u64)
 }
 
-// Nothing but zeros, the exits too. Most places of a model are so: no branch until the end.
-fn is_empty_state(st: State) -> bool
-    ensures { λ r. ⌜ r ≡ isEmptyState st ⌝ }
+// A number that is 0 exactly where the state is blank, the exits aside.
+fn own_bits(st: State) -> u64
+    ensures { λ r. ⌜ eqb r 0 ≡ isBlankState st ⌝ }
 {
-    let bytes = (st.kind | st.exits) | (st.sender | st.typ);
-    let targets = st.timeout | st.cancel;
-    let words = st.after | st.receivers;
-    let mut exits: u8 = 0;
-    let mut x: usize = 0;
-    while x < MOST_EXITS {
-        let e = st.exit[x];
-        exits = exits | (e.target | (e.sender | e.typ));
-        x += 1;
-    }
-    both(both(both(bytes == 0, targets == 0), words == 0), exits == 0)
+    let low = st.kind as u64
+        + 256 * (st.exits as u64)
+        + 65536 * (st.sender as u64)
+        + 16777216 * (st.typ as u64);
+    let mid = low + 4294967296 * (st.after as u64);
+    let all = mid + 281474976710656 * (st.timeout as u64) + 72057594037927936 * (st.cancel as u64);
+    all | (st.receivers as u64)
 }
 
-// The state with number t of a subject with so many states, with its exits: right if the subject has it, else all zero.
-fn place_right(n: u8, states: u8, t: u8, st: State) -> bool
-    ensures { λ r. ⌜ r ≡ stateValid n states t st ⌝ }
+// A number that is 0 exactly where all exits are blank.
+fn exit_bits(st: State) -> u64
+    ensures { λ r. ⌜ eqb r 0 ≡ allBelow (λ x. isBlankExit (exitAt st x)) mostExits ⌝ }
 {
-    if t < states {
-        return state_valid(n, states, t, st);
-    }
-    is_empty_state(st)
-}
-
-// Every state is right, and there are not too many exits in all.
-fn states_right(m: Model) -> bool
-    ensures { λ r. ⌜ r ≡ (allBelow (stateRight m) statePlaces && leb (exitsInAll m) mostExitsInAll) ⌝ }
-{
-    let n = m.n;
-    let mut exits: usize = 0;
-    let mut p: usize = 0;
-    while p < STATE_PLACES {
-        let s = p / MOST_STATES;
-        let own = m.subjects[s].states;
-        let st = m.states[p];
-        if !place_right(n, own, (p % MOST_STATES) as u8, st) {
-            return false;
-        }
-        exits += st.exits as usize;
-        p += 1;
-    }
-    exits <= MOST_EXITS_IN_ALL
+    let e0 = st.exit[0];
+    let e1 = st.exit[1];
+    let e2 = st.exit[2];
+    let e3 = st.exit[3];
+    let e4 = st.exit[4];
+    let e5 = st.exit[5];
+    let e6 = st.exit[6];
+    let e7 = st.exit[7];
+    let a = eight(
+        e0.target,
+        e0.sender,
+        e0.typ,
+        e1.target,
+        e1.sender,
+        e1.typ,
+        e2.target,
+        e2.sender,
+    );
+    let b = eight(
+        e2.typ,
+        e3.target,
+        e3.sender,
+        e3.typ,
+        e4.target,
+        e4.sender,
+        e4.typ,
+        e5.target,
+    );
+    let c = eight(
+        e5.sender,
+        e5.typ,
+        e6.target,
+        e6.sender,
+        e6.typ,
+        e7.target,
+        e7.sender,
+        e7.typ,
+    );
+    (a | b) | c
 }
 
 // The start mask names a subject, and none from n up.
@@ -208,7 +186,7 @@ fn start_right(n: u8, start: u16) -> bool
     both(start != 0, sets::none_from(n, start))
 }
 
-// Whether some file loads to the model.
+// Whether some file loads to the model. All in one function: a model that is passed on is copied.
 pub fn is_valid(m: Model) -> bool
     ensures { λ r. ⌜ r ≡ valid m ⌝ }
 {
@@ -216,8 +194,37 @@ pub fn is_valid(m: Model) -> bool
     if !both(sets::is_within(1, n, 16), start_right(n, m.start)) {
         return false;
     }
-    if !subjects_right(m) {
-        return false;
+    let mut exits: usize = 0;
+    let mut s: usize = 0;
+    while s < MOST_SUBJECTS {
+        let sub = m.subjects[s];
+        let first = m.states[s * MOST_STATES + (sub.initial % 32) as usize];
+        if !subject_valid(n, s as u8, sub, first.kind) {
+            return false;
+        }
+        let states = sub.states as usize;
+        let mut t: usize = 0;
+        while t < states {
+            let st = m.states[s * MOST_STATES + t];
+            if !state_valid(n, sub.states, st) {
+                return false;
+            }
+            exits += st.exits as usize;
+            t += 1;
+        }
+        // Most places of a model have no state: no branch until the end.
+        let mut own: u64 = 0;
+        let mut others: u64 = 0;
+        while t < MOST_STATES {
+            let st = m.states[s * MOST_STATES + t];
+            own = own | own_bits(st);
+            others = others | exit_bits(st);
+            t += 1;
+        }
+        if !both(own == 0, others == 0) {
+            return false;
+        }
+        s += 1;
     }
-    states_right(m)
+    exits <= MOST_EXITS_IN_ALL
 }

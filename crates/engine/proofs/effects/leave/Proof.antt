@@ -1,29 +1,38 @@
-use mathlib.Core.Path.{_≡_, sym, _∙_}
+use mathlib.Core.Path.{_≡_, sym, ap, _∙_}
+use mathlib.Core.Logic.{⊎-elim}
 use Prim.Native.Nat.{_≤_, _-_}
 use borrow.Author.Needs.{needs}
 use Rattle.sets.specs.Below.{changed}
 use Rattle.sets.proofs.Below.{change-start, change-end}
 use Rattle.pools.specs.Pools.{withdrawnFrom}
 use Rattle.configs.specs.Subjects.{noOne, withPool, eachSubject}
+use Rattle.configs.specs.declared.Config.{Config}
 use Rattle.engine.specs.Effects.{withdrawing, leaving}
 use Rattle.sets.proofs.Arrays.{length-mapped}
 use Rattle.sets.proofs.Below.{changed-turn}
+use Rattle.engine.proofs.StillLaws.{changed-still, withdrawn-still}
 use Rattle.engine.proofs.effects.leave.Statement.{statement}
 use Rattle.engine.proofs.effects.leave.Tie as tie
 
 abbrev Inv-loop : tie.InvT-loop
-Inv-loop t end s now₀ r₀ now r = (r ≤ 16) × (now ≡ changed (λ _ x. withPool (withdrawnFrom s (x .pool)) x) noOne now₀ 16 r)
+Inv-loop t end s d₀ r₀ d r = (r ≤ 16) × (d .subjects ≡ changed (λ _ x. withPool (withdrawnFrom s (x .pool)) x) noOne (d₀ .subjects) 16 r)
 
 abbrev μ-loop : tie.MeasureT-loop
-μ-loop t end s now₀ r₀ now r = 16 - r
+μ-loop t end s d₀ r₀ d r = 16 - r
 
 loop-holds : tie.Need-loop-holds Inv-loop μ-loop
 loop-holds c = (search needs, sym (change-start _ _ _ _ (search length-mapped)))
 
 loop-again : tie.Need-loop-again Inv-loop μ-loop
 loop-again c =
-    let at = c .before .before in
-    (search needs, changed-turn _ _ _ _ _ _ _ noOne (at .loop-test .taken) (at .before .loop .inv .1) (c .withdraw-at .ensures))
+    let at = c .before .before .before .before in
+    let inv = at .before .loop .inv in (
+      search needs,
+      ⊎-elim
+          (λ w. ap (λ (d : Config). d .subjects) (w .2) ∙ changed-turn _ _ _ _ _ _ _ noOne (at .loop-test .taken) (inv .1) (w .1 .ensures))
+          (λ w. ap (λ (d : Config). d .subjects) (w .1) ∙ changed-still _ _ _ _ _ _ noOne (at .loop-test .taken) (inv .1) (withdrawn-still _ _ (w .0 .left)))
+          (c .if1 .came),
+    )
 
 returns : tie.Need-returns Inv-loop μ-loop
 unfolding leaving withdrawing eachSubject

@@ -11,21 +11,21 @@ use Rattle.engine.proofs.reserving.reserve.Statement.{statement}
 use Rattle.engine.proofs.reserving.reserve.Tie as tie
 
 abbrev Inv-loop : tie.InvT-loop
-Inv-loop here s subjects typ i before now₀ places₀ left₀ now places left =
-    (left < 2 ^ 16) × (turns subjects s typ now places left ≡ turns subjects s typ now₀ places₀ left₀)
+Inv-loop here s subjects typ i d₀ before places₀ left₀ d places left =
+    (left < 2 ^ 16) × (turns subjects s typ (d .subjects) places left ≡ turns subjects s typ (d₀ .subjects) places₀ left₀)
 
 abbrev μ-loop : tie.MeasureT-loop
-μ-loop here s subjects typ i before now₀ places₀ left₀ now places left = left
+μ-loop here s subjects typ i d₀ before places₀ left₀ d places left = left
 
 -- every subject's mask has 16 bits, the sender's too
-mask-fits : (c : tie.Start Inv-loop μ-loop) → at (c .args .t3) (c .args .s) .mask < 2 ^ 16
+mask-fits : (c : tie.Start Inv-loop μ-loop) → at (c .args .c) (c .args .s) .mask < 2 ^ 16
 mask-fits c =
-    each-holds (λ x. x .mask < 2 ^ 16) _ _ noOne (omega arith) (λ x u p. omega (arith, p .1 .1 .1 .1 .1 .1 .0 .1)) (c .args .t3 .subjects) _ (c .good .1 .1 .0 .1 .1 .0 .1 .1) (c .args .s)
+    each-holds (λ x. x .mask < 2 ^ 16) _ _ noOne (omega arith) (λ x u p. omega (arith, p .1 .1 .1 .1 .1 .1 .0 .1)) (c .args .c .subjects) _ (c .good .1 .1 .0 .1 .1 .0 .1 .1) (c .args .s)
 
 loop-holds : tie.Need-loop-holds Inv-loop μ-loop
 loop-holds c =
-    let a = c .before .before .before .args in
-    (omega (arith, c .struct-known .given, and-le-l (a .here .receivers) (65535 - at (a .t3) (a .s) .mask)), refl)
+    let a = c .before .before .args in
+    (omega (arith, c .struct-known .given, and-le-l (a .here .receivers) (65535 - at (a .c) (a .s) .mask)), refl)
 
 -- the receiver whose turn it is
 lowest : (c : tie.After-part Inv-loop μ-loop) → Least 16 (c .before .before .loop .left)
@@ -34,14 +34,14 @@ lowest c = least 16 _ (omega (arith, c .before .loop-test .taken)) (c .before .b
 below : (c : tie.After-part Inv-loop μ-loop) → c .part .result .first < 16
 below c = rw (c .part .ensures) (lowest c .below)
 
-array-copy-out-x : tie.Need-array-copy-out-x Inv-loop μ-loop
-array-copy-out-x c = below (c .before)
+element-copy-out-x : tie.Need-element-copy-out-x Inv-loop μ-loop
+element-copy-out-x c = below (c .before)
 
 array-copy-out-reply-of : tie.Need-array-copy-out-reply-of Inv-loop μ-loop
 array-copy-out-reply-of c = below (c .before .before)
 
-array-set-from-now : tie.Need-array-set-from-now Inv-loop μ-loop
-array-set-from-now c = below (c .before .before .before .before .before)
+element-set-from-d : tie.Need-element-set-from-d Inv-loop μ-loop
+element-set-from-d c = below (c .before .before .before .before .before)
 
 note-requires : tie.Need-note-requires Inv-loop μ-loop
 note-requires c κs = below (c .before .before .before .before .before)
@@ -63,14 +63,14 @@ loop-again c =
 returns : tie.Need-returns Inv-loop μ-loop
 returns c =
     let l = c .before .before .before in
-    let start = l .before .before .before .before in
-    let exit = l .before .before .before .exit-of in
+    let start = l .before .before .before in
+    let exit = l .before .before .exit-of in
     reserving-is
     (start .args .t1)
     (start .args .here)
-    (start .args .t3)
+    (start .args .c)
     (start .args .s)
-    (l .loop .now)
+    (l .loop .d .subjects)
     (l .loop .places)
     (c .missing .result)
     (turns-end _ _ _ _ _ _ (c .before .before .loop-test .left) ∙ l .loop .inv .1 ∙ turns-all _ _ _ _ _ (exit .ensures) (mask-fits start))
@@ -89,18 +89,16 @@ reserve-spec =
     (λ c κs. search needs)
     (λ c. search needs)
     (λ c. search needs)
-    array-copy-out-x
+    element-copy-out-x
     (λ c. search needs)
     array-copy-out-reply-of
     (λ c κs. search needs)
     (λ c κs. search needs)
     (λ c. search needs)
-    array-set-from-now
+    element-set-from-d
     note-requires
     loop-less
     loop-again
-    (λ c. search needs)
-    (λ c. search needs)
     (λ c. search needs)
     (λ c. search needs)
     (λ c κs. search needs)

@@ -1,0 +1,20 @@
+use borrow.Author.Needs.{needs}
+use Rattle.controller.proofs.PrintedLaws.{served-is, served-text}
+use Rattle.controller.proofs.printed.serve.Statement.{statement}
+use Rattle.controller.proofs.printed.serve.Tie as tie
+
+returns : tie.Need-returns
+returns c =
+    let s = c .before .before .before .before .before .before .before .before .before .before .before .before .before in
+    let a = s .args in
+    let r = c .before .before .before .before .before .before .before .before .run in
+    let l = c .before .before .before .put-lines in (
+      l .ensures .0,
+      (
+        served-is (a .m) (a .c) (a .tape .now) (a .numbers .now) (s .pre .0) (a .first) (r .last .1 .1 .1 .0) (r .ensures .1) (r .result) (l .result) (r .ensures .0) (l .ensures .1 .0),
+        served-text (a .m) (a .c) (a .tape .now) (a .numbers .now) (s .pre .0) (a .first) (r .last .1 .1 .1 .0) (r .ensures .1) (a .out .now) (l .last .1 .1 .1 .0) (l .ensures .1 .1),
+      ),
+    )
+
+pub serve-spec : {M : Type 1} → statement M
+serve-spec = tie.close (tie.spec (λ c κs. search needs) (λ c κs. search needs) (λ c. search needs) (λ c. search needs) returns)

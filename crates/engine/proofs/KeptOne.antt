@@ -1,11 +1,11 @@
 -- Steps that change one subject's own fields keep a configuration good: Do, Take, Run and Tick.
 use mathlib.Core.Path.{_≡_, refl, sym, ap, _∙_}
-use mathlib.Core.Bool.{Bool, true, false, _&&_, _||_, not, cond}
+use mathlib.Core.Bool.{Bool, true, false, _&&_, cond}
 use mathlib.Core.List.{List, append-nil}
 use Prim.Native.Nat.{ℕ, suc, _+_, _≤_, _<_, min}
 use native.Mathlib.Omega.{arith}
-use borrow.Author.Tests.{le-ltb, le-leb, ne-eqb, ltb-true, ltb-false, leb-true, eqb-true, eqb-false}
-use lib.Dec.{eqb, leb, ltb}
+use borrow.Author.Tests.{le-ltb, ne-eqb, ltb-true, ltb-false, eqb-true, eqb-false}
+use lib.Dec.{eqb, ltb}
 use lib.ListN.{length, getD, drop-of-length-le}
 use lib.Pow.{pow-pos}
 use lib.Seq.{take-all}
@@ -13,25 +13,25 @@ use Rattle.sets.specs.Lists.{allOf, counted, without}
 use Rattle.sets.specs.Masks.{bit}
 use Rattle.sets.specs.Tests.{within}
 use Rattle.sets.specs.declared.Found.the-variants.{At}
-use Rattle.sets.proofs.Tests.{not-both, and-true, and-both, within-is, within-true, choose}
-use Rattle.sets.proofs.Below.{all-each, all-by, length-table, table-at}
-use Rattle.sets.proofs.Lists.{length-padded, all-of-without, counted-weaker, counted-without, find-is}
+use Rattle.sets.proofs.Tests.{not-both, and-both, within-is, within-true, choose}
+use Rattle.sets.proofs.Below.{length-table, table-at}
+use Rattle.sets.proofs.Lists.{length-padded, all-of-without, counted-without, find-is}
 use Rattle.sets.proofs.Masks.{bit-zero}
 use Rattle.model.specs.Rules.{any}
-use Rattle.model.specs.Sizes.{mostSubjects, mostRows}
-use Rattle.model.specs.Valid.{subjectAt, rowAt, exitAt, valid}
+use Rattle.model.specs.Sizes.{mostSubjects}
+use Rattle.model.specs.Valid.{subjectAt, exitAt, valid}
 use Rattle.model.specs.declared.Model.{Model}
-use Rattle.model.specs.declared.Row.{Row}
 use Rattle.model.specs.declared.State.{State}
 use Rattle.model.specs.declared.Subject as model-subject
-use Rattle.pools.specs.Entries.{blankEntry, fits, matches, isMessage, reservedBy}
+use Rattle.pools.specs.Entries.{blankEntry, matches, isMessage, reservedBy}
 use Rattle.pools.specs.Sizes.{mostEntries}
 use Rattle.pools.specs.Pools.{held, reservations, firstMessage, takenAt, Well}
-use Rattle.pools.specs.Rows.{rowsKept, rowKept, rowCount}
+use Rattle.pools.specs.Rows.{rowsKept}
 use Rattle.pools.specs.Valid.{entryValid}
 use Rattle.pools.specs.declared.Entry.{Entry}
 use Rattle.pools.specs.declared.Pool.{Pool}
 use Rattle.pools.proofs.PoolLaws.{well-short, held-taken, well-taken}
+use Rattle.pools.proofs.EntryLaws.{reservations-any, rows-fewer}
 use Rattle.configs.specs.Subjects.{running, endedProperly, endedImproperly, isSend, isEnd, at, stateOf, hereOf, put, eachSubject, withWord, withWaited, withPool, entered, nobody, Held}
 use Rattle.configs.specs.Valid.{marksRight, fieldsRight, typeOf}
 use Rattle.configs.specs.declared.Config.{Config}
@@ -43,22 +43,12 @@ use Rattle.engine.specs.Effects.{runExit, doing, wantedAt, takingAt, mar
 
 -- ---- reservations
 
--- those of one type are among those of any
-pub reserved-less : (q t : ℕ) (es : List Entry) → reservations q t es ≤ reservations q any es
-unfolding reservations
-reserved-less q t es = counted-weaker (reservedBy q t) (reservedBy q any) es (λ e h. weaker e h)
-  where
-    weaker : (e : Entry) → reservedBy q t e ≡ true → reservedBy q any e ≡ true
-    weaker e h = unfold reservedBy in
-        let a = and-both (not (e .message)) (eqb (e .sender) q && fits t (e .typ)) h in
-        and-true (a .left) (and-true (and-both (eqb (e .sender) q) (fits t (e .typ)) (a .right) .left) refl)
-
 -- a sender with no place has no reservation of any type anywhere
 pub idle-none : (m : Model) (c : Config) → GoodConfig m c → (q : ℕ) → q < m .n → at c q .mask ≡ 0
     → (r t : ℕ) → r < m .n → reservations q t (held (at c r .pool)) ≡ 0
 idle-none m c g q l z r t lr =
     let e : reservations q any (held (at c r .pool)) ≡ 0 = g .one r q lr l ∙ rw (z, bit-zero r) in
-    omega (arith, reserved-less q t (held (at c r .pool)))
+    omega (arith, reservations-any q t (held (at c r .pool)))
 
 -- ---- one subject is changed, and no place
 
@@ -110,21 +100,6 @@ stock-same m s x y g a b =
 pub well-full : (p : Pool) → Well p → length (p .entries) ≡ mostEntries
 well-full p w = ap length (w .exact) ∙ length-padded mostEntries blankEntry (held p) (well-short p w)
 
--- fewer entries keep the rows
-pub rows-less : (own : model-subject.Subject) (es fs : List Entry) → ((f : Entry → Bool) → counted f fs ≤ counted f es)
-    → rowsKept own es ≡ true → rowsKept own fs ≡ true
-unfolding rowsKept rowKept rowCount
-rows-less own es fs less h =
-    all-by
-    (λ k. not (ltb k (own .rows)) || rowKept fs (rowAt own k))
-    mostRows
-    (λ k l. go (ltb k (own .rows)) (rowAt own k) (all-each (λ j. not (ltb j (own .rows)) || rowKept es (rowAt own j)) mostRows h k l))
-  where
-    go : (b : Bool) (w : Row) → (not b || leb (counted (matches (w .sender) (w .typ)) es) (w .limit)) ≡ true
-        → (not b || leb (counted (matches (w .sender) (w .typ)) fs) (w .limit)) ≡ true
-    go false w e = refl
-    go true w e = le-leb _ (w .limit) (omega (arith, leb-true _ (w .limit) e, less (matches (w .sender) (w .typ))))
-
 -- ---- one entry is taken out
 
 without-past : (i : ℕ) (es : List Entry) → length es ≤ i → without i es ≡ es
@@ -155,7 +130,7 @@ stock-taken m s x i g =
       entries = rw (held-taken (x .pool) i) (all-of-without (entryValid (m .n)) i (held (x .pool)) (g .entries));
       rows =
           rw (held-taken (x .pool) i)
-          (rows-less (subjectAt m s) (held (x .pool)) (without i (held (x .pool))) (λ f. without-counted f i (held (x .pool))) (g .rows));
+          (rows-fewer (subjectAt m s) (held (x .pool)) (without i (held (x .pool))) (λ a b. without-counted (matches a b) i (held (x .pool))) (g .rows));
     }
 
 -- ---- marks

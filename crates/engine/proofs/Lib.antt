@@ -10,4 +10,6 @@ pub mod Seen
 pub mod Kept
 pub mod StepLaws
 pub mod Machine
+pub mod OwnLaws
+pub mod TurnLaws
 pub mod TapeLaws

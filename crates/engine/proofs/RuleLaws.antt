@@ -1,4 +1,4 @@
--- Laws of the rules of a step: the first rule that holds refuses; and which rules each command has.
+-- Laws of the rules of a step: the first rule that holds refuses, by its number; and which rules each command has.
 use mathlib.Core.Path.{_≡_, refl, sym, ap, subst, _∙_}
 use mathlib.Core.Logic.{_↔_}
 use mathlib.Core.Bool.{Bool, true, false, _&&_, not, cond}
@@ -6,7 +6,7 @@ use mathlib.Core.List.{List, [], _∷_, _++_}
 use Prim.Native.Nat.{ℕ, zero, suc, _<_, suc-le-suc}
 use native.Mathlib.Nat.{not-suc-le-zero, le-of-suc-le-suc}
 use native.Mathlib.Omega.{arith}
-use borrow.Author.Tests.{ltb-true}
+use borrow.Author.Tests.{ltb-true, eqb-true, ne-eqb}
 use lib.Dec.{eqb, leb, ltb}
 use lib.ListN.{length}
 use Rattle.sets.specs.Tests.{within}
@@ -18,12 +18,12 @@ use Rattle.configs.specs.Answers.{refusalOf, refused}
 use Rattle.configs.specs.Subjects.{running, isSend, at}
 use Rattle.configs.specs.declared.Config.{Config}
 use Rattle.configs.specs.declared.Stepped.{Stepped}
-use Rattle.engine.specs.Commands.{isCode}
+use Rattle.engine.specs.Commands.{names, subjectOf, isCode}
 use Rattle.engine.specs.Effects.{wantedAt}
 use Rattle.engine.specs.Exact.{holdsAt, numberAt, FirstRule, NoRule}
 use Rattle.engine.specs.Reserve.{answered, reserving}
-use Rattle.engine.specs.Rules.{noSubject, notRunning, wrongKind, noExit, isNothing, noMessage, placeMissing, someImproper, notPlaced, improperReceiver, noTarget, tooEarly, canDeliver, sendFirst, rules, guarded}
-use Rattle.engine.specs.Steps.{effect, acts, turned}
+use Rattle.engine.specs.Rules.{noSubject, notRunning, wrongKind, noExit, isNothing, noMessage, missesPlace, placeMissing, someImproper, notPlaced, improperReceiver, noTarget, tooEarly, canDeliver, sendFirst, kindRules, rules, firstNumber, guarded}
+use Rattle.engine.specs.Steps.{effect, acts, turnRules, turned}
 use Rattle.engine.specs.declared.Command.{Command}
 use Rattle.engine.specs.declared.Command.the-variants.{Do, Reserve, Deliver, Take, Run, Expire, Cancel, Tick}
 
@@ -133,24 +133,61 @@ refused-by c (rule ∷ rest) next k accepted some h = go (rule .0) refl h (λ q.
         let r = f q in
         record { rule = suc (r .rule); first = first-after rule rest (r .rule) e (r .first); number = r .number }
 
--- where the numbers ascend from above k, and so none is 0, what is accepted broke no rule
-accepted-none : (c : Config) (k : ℕ) (list : List (Bool × ℕ)) (next : Stepped) → ascends k list ≡ true → refusalOf (guarded c list next .answer) ≡ 0 → (j : ℕ) → holdsAt list j ≡ false
-unfolding guarded
-accepted-none c k [] next up h j = refl
-accepted-none c k (rule ∷ rest) next up h j =
-    go (rule .0) refl h (ascends-first k rule rest up) (accepted-none c (rule .1) rest next (ascends-rest k rule rest up)) j
+-- where the numbers ascend from above k, and so none is 0, the number of the first that holds tells the step
+number-from :
+    (c : Config) (k : ℕ) (list : List (Bool × ℕ)) (next : Stepped)
+    → ascends k list ≡ true
+    → guarded c list next ≡ cond (eqb (firstNumber list) 0) next (refused c (firstNumber list))
+unfolding guarded firstNumber
+number-from c k [] next up = refl
+number-from c k (rule ∷ rest) next up =
+    go (rule .0) (ascends-first k rule rest up) (number-from c (rule .1) rest next (ascends-rest k rule rest up))
+  where
+    go :
+        (b : Bool)
+        → k < rule .1
+        → guarded c rest next ≡ cond (eqb (firstNumber rest) 0) next (refused c (firstNumber rest))
+        → cond b (refused c (rule .1)) (guarded c rest next)
+        ≡ cond (eqb (cond b (rule .1) (firstNumber rest)) 0) next (refused c (cond b (rule .1) (firstNumber rest)))
+    go true l f = rw (ne-eqb (rule .1) 0 (λ z. absurd (omega (arith, z))))
+    go false l f = f
+
+pub guarded-number :
+    (c : Config) (list : List (Bool × ℕ)) (next : Stepped)
+    → ascends 0 list ≡ true
+    → guarded c list next ≡ cond (eqb (firstNumber list) 0) next (refused c (firstNumber list))
+guarded-number c list next up = number-from c 0 list next up
+
+-- and where that is 0, no rule holds
+none-from : (k : ℕ) (list : List (Bool × ℕ)) → ascends k list ≡ true → firstNumber list ≡ 0 → (j : ℕ) → holdsAt list j ≡ false
+unfolding firstNumber
+none-from k [] up h j = refl
+none-from k (rule ∷ rest) up h j =
+    go (rule .0) refl h (ascends-first k rule rest up) (none-from (rule .1) rest (ascends-rest k rule rest up)) j
   where
     go :
         (b : Bool)
         → rule .0 ≡ b
-        → refusalOf (cond b (refused c (rule .1)) (guarded c rest next) .answer) ≡ 0
+        → cond b (rule .1) (firstNumber rest) ≡ 0
         → k < rule .1
-        → (refusalOf (guarded c rest next .answer) ≡ 0 → (j : ℕ) → holdsAt rest j ≡ false)
+        → (firstNumber rest ≡ 0 → (j : ℕ) → holdsAt rest j ≡ false)
         → (j : ℕ)
         → holdsAt (rule ∷ rest) j ≡ false
     go true e q l f j = absurd (omega (arith, q))
     go false e q l f zero = e
     go false e q l f (suc j) = f q j
+
+pub number-none : (list : List (Bool × ℕ)) → ascends 0 list ≡ true → firstNumber list ≡ 0 → NoRule list
+number-none list up h = record { none = λ j l. none-from 0 list up h j }
+
+-- as it is where the step is accepted
+accepted-number : (c : Config) (list : List (Bool × ℕ)) (next : Stepped) → ascends 0 list ≡ true → refusalOf (guarded c list next .answer) ≡ 0 → firstNumber list ≡ 0
+accepted-number c list next up h =
+    go (eqb (firstNumber list) 0) refl (ap (λ (r : Stepped). refusalOf (r .answer)) (sym (guarded-number c list next up)) ∙ h)
+  where
+    go : (b : Bool) → eqb (firstNumber list) 0 ≡ b → refusalOf (cond b next (refused c (firstNumber list)) .answer) ≡ 0 → firstNumber list ≡ 0
+    go true e q = eqb-true (firstNumber list) 0 e
+    go false e q = q
 
 -- Before what is accepted: by the number a reader knows which rule held first.
 module _ (c : Config) (list : List (Bool × ℕ)) (next : Stepped) (accepted : refusalOf (next .answer) ≡ 0) where
@@ -178,7 +215,7 @@ module _ (c : Config) (list : List (Bool × ℕ)) (next : Stepped) (accepted : r
   -- and it is 0 exactly where no rule holds
   pub accepted-exact : ascends 0 list ≡ true → (refusalOf (guarded c list next .answer) ≡ 0) ↔ NoRule list
   accepted-exact up = (
-    λ h. record { none = λ j l. accepted-none c 0 list next up h j },
+    λ h. number-none list up (accepted-number c list next up h),
     λ f. ap (λ (r : Stepped). refusalOf (r .answer)) (none-refuses c list next f) ∙ accepted,
   )
 
@@ -200,94 +237,91 @@ effect-accepted n subjects here end c (Expire s) = refl
 effect-accepted n subjects here end c (Cancel s) = refl
 effect-accepted n subjects here end c Tick = refl
 
+-- a step by the fault that was found is told by its number: 8, 9, 10, then 11 to 20
+pub turned-number :
+    (fault code n : ℕ) (subjects : List model-subject.Subject) (here : State) (end : Bool) (c : Config) (k : Command)
+    → turned fault code n subjects here end c k
+    ≡ cond (eqb (firstNumber (turnRules fault code n here c k)) 0)
+    (effect n subjects here end c k)
+    (refused c (firstNumber (turnRules fault code n here c k)))
+unfolding turned acts guarded ascends
+turned-number fault code n subjects here end c k =
+    guarded-number c (turnRules fault code n here c k) (effect n subjects here end c k) refl
+
 -- ---- the rules of each command
 
 -- the end of a path, said the other way
 pub onto : {A : Type 0} {x y z : A} → x ≡ y → z ≡ y → z ≡ x
 onto p q = q ∙ sym p
 
--- every command that names a subject: it is there, and runs
-abbrev pub asked : ℕ → Config → ℕ → Stepped → Stepped
-asked n c s next = cond (leb n s) (refused c 11) (cond (not (eqb (at c s .mode) running)) (refused c 12) next)
+-- of each command that names a subject, the first number of the rules of its kind
+module _ (here : State) (c : Config) (s : ℕ) where
+  pub do-number : (e w : ℕ) → firstNumber (kindRules here c (Do s e w)) ≡ cond (not (eqb (here .kind) 1)) 13 (cond (leb (here .exits) e) 14 0)
+  unfolding firstNumber wrongKind noExit noMessage notPlaced improperReceiver noTarget tooEarly sendFirst
+  do-number e w = refl
 
-module _ (n : ℕ) (here : State) (c : Config) (s : ℕ) (next : Stepped) where
-  pub do-rules :
-      (e w : ℕ)
-      → guarded c (rules n here c (Do s e w)) next
-      ≡ asked n c s
-      (cond (not (eqb (here .kind) 1)) (refused c 13)
-      (cond (leb (here .exits) e) (refused c 14)
-      next))
-  unfolding guarded noSubject notRunning wrongKind noExit noMessage notPlaced improperReceiver noTarget tooEarly sendFirst
-  do-rules e w = refl
+  pub reserve-number : firstNumber (kindRules here c (Reserve s)) ≡ cond (not (isSend (here .kind))) 13 0
+  unfolding firstNumber wrongKind noExit noMessage notPlaced improperReceiver noTarget tooEarly sendFirst
+  reserve-number = refl
 
-  pub reserve-rules :
-      guarded c (rules n here c (Reserve s)) next
-      ≡ asked n c s
-      (cond (not (isSend (here .kind))) (refused c 13)
-      next)
-  unfolding guarded noSubject notRunning wrongKind noExit noMessage notPlaced improperReceiver noTarget tooEarly sendFirst
-  reserve-rules = refl
+  pub deliver-number :
+      firstNumber (kindRules here c (Deliver s))
+      ≡ cond (not (isSend (here .kind))) 13
+      (cond (missesPlace here (at c s .mask)) 16
+      (cond (someImproper here c) 17
+      0))
+  unfolding firstNumber wrongKind noExit noMessage placeMissing notPlaced improperReceiver noTarget tooEarly sendFirst
+  deliver-number = refl
 
-  pub deliver-rules :
-      guarded c (rules n here c (Deliver s)) next
-      ≡ asked n c s
-      (cond (not (isSend (here .kind))) (refused c 13)
-      (cond (placeMissing here c s) (refused c 16)
-      (cond (someImproper here c) (refused c 17)
-      next)))
-  unfolding guarded noSubject notRunning wrongKind noExit noMessage notPlaced improperReceiver noTarget tooEarly sendFirst
-  deliver-rules = refl
-
-  pub take-rules :
+  pub take-number :
       (e : ℕ)
-      → guarded c (rules n here c (Take s e)) next
-      ≡ asked n c s
-      (cond (not (eqb (here .kind) 3)) (refused c 13)
-      (cond (leb (here .exits) e) (refused c 14)
-      (cond (isNothing (wantedAt here e (at c s))) (refused c 15)
-      next)))
-  unfolding guarded noSubject notRunning wrongKind noExit noMessage notPlaced improperReceiver noTarget tooEarly sendFirst
-  take-rules e = refl
+      → firstNumber (kindRules here c (Take s e))
+      ≡ cond (not (eqb (here .kind) 3)) 13
+      (cond (leb (here .exits) e) 14
+      (cond (isNothing (wantedAt here e (at c s))) 15
+      0))
+  unfolding firstNumber wrongKind noExit noMessage notPlaced improperReceiver noTarget tooEarly sendFirst
+  take-number e = refl
 
-  pub run-rules :
-      guarded c (rules n here c (Run s)) next
-      ≡ asked n c s
-      (cond (not (within 4 (here .kind) 6)) (refused c 13)
-      next)
-  unfolding guarded noSubject notRunning wrongKind noExit noMessage notPlaced improperReceiver noTarget tooEarly sendFirst
-  run-rules = refl
+  pub run-number : firstNumber (kindRules here c (Run s)) ≡ cond (not (within 4 (here .kind) 6)) 13 0
+  unfolding firstNumber wrongKind noExit noMessage notPlaced improperReceiver noTarget tooEarly sendFirst
+  run-number = refl
 
-  pub expire-rules :
-      guarded c (rules n here c (Expire s)) next
-      ≡ asked n c s
-      (cond (eqb (here .timeout) any) (refused c 18)
-      (cond (ltb (at c s .waited) (here .after)) (refused c 19)
-      (cond (canDeliver here c s) (refused c 20)
-      next)))
-  unfolding guarded noSubject notRunning wrongKind noExit noMessage notPlaced improperReceiver noTarget tooEarly sendFirst
-  expire-rules = refl
+  pub expire-number :
+      firstNumber (kindRules here c (Expire s))
+      ≡ cond (eqb (here .timeout) any) 18
+      (cond (ltb (at c s .waited) (here .after)) 19
+      (cond (isSend (here .kind) && (not (missesPlace here (at c s .mask)) && not (someImproper here c))) 20
+      0))
+  unfolding firstNumber wrongKind noExit noMessage placeMissing notPlaced improperReceiver noTarget tooEarly canDeliver sendFirst
+  expire-number = refl
 
-  pub cancel-rules :
-      guarded c (rules n here c (Cancel s)) next
-      ≡ asked n c s
-      (cond (eqb (here .cancel) any) (refused c 18)
-      next)
-  unfolding guarded noSubject notRunning wrongKind noExit noMessage notPlaced improperReceiver noTarget tooEarly sendFirst
-  cancel-rules = refl
+  pub cancel-number : firstNumber (kindRules here c (Cancel s)) ≡ cond (eqb (here .cancel) any) 18 0
+  unfolding firstNumber wrongKind noExit noMessage notPlaced improperReceiver noTarget tooEarly sendFirst
+  cancel-number = refl
 
 -- Tick has none
-pub tick-rules : (n : ℕ) (here : State) (c : Config) (next : Stepped) → guarded c (rules n here c Tick) next ≡ next
-unfolding guarded noSubject notRunning wrongKind noExit noMessage notPlaced improperReceiver noTarget tooEarly sendFirst
-tick-rules n here c next = refl
+pub tick-number : (here : State) (c : Config) → firstNumber (kindRules here c Tick) ≡ 0
+unfolding firstNumber wrongKind noExit noMessage notPlaced improperReceiver noTarget tooEarly sendFirst
+tick-number here c = refl
 
--- 8, 9 and 10 come first
-pub fault-rules :
-    (fault code n : ℕ) (subjects : List model-subject.Subject) (here : State) (end : Bool) (c : Config) (k : Command)
-    → turned fault code n subjects here end c k
-    ≡ cond (eqb fault 8) (refused c 8)
-    (cond (not (isCode code)) (refused c 9)
-    (cond (eqb fault 10) (refused c 10)
-    (acts n subjects here end c k)))
-unfolding turned guarded
-fault-rules fault code n subjects here end c k = refl
+-- 11 and 12 come first, where the command names a subject
+pub subject-number :
+    (n : ℕ) (here : State) (c : Config) (k : Command)
+    → firstNumber (rules n here c k)
+    ≡ cond (names k && leb n (subjectOf k)) 11
+    (cond (names k && not (eqb (at c (subjectOf k) .mode) running)) 12
+    (firstNumber (kindRules here c k)))
+unfolding firstNumber noSubject notRunning
+subject-number n here c k = refl
+
+-- 8, 9 and 10 before them
+pub fault-number :
+    (fault code n : ℕ) (here : State) (c : Config) (k : Command)
+    → firstNumber (turnRules fault code n here c k)
+    ≡ cond (eqb fault 8) 8
+    (cond (not (isCode code)) 9
+    (cond (eqb fault 10) 10
+    (firstNumber (rules n here c k))))
+unfolding firstNumber
+fault-number fault code n here c k = refl

@@ -66,13 +66,28 @@ noMessage here c (Expire s) = false
 noMessage here c (Cancel s) = false
 noMessage here c Tick = false
 
+-- a receiver is not in the mask
+abbrev pub missesPlace : State → ℕ → Bool
+missesPlace here mask = not (eqb (length (others mostSubjects (here .receivers) mask)) 0)
+
 -- a receiver has no place of s
 unfoldable pub placeMissing : State → Config → ℕ → Bool
-placeMissing here c s = not (eqb (length (others mostSubjects (here .receivers) (at c s .mask))) 0)
+placeMissing here c s = missesPlace here (at c s .mask)
 
 -- a receiver has ended improperly
 unfoldable pub someImproper : State → Config → Bool
 someImproper here c = someBelow (λ r. bit (here .receivers) r && eqb (at c r .mode) endedImproperly) mostSubjects
+
+-- whether a refusal depends on how the receivers ended
+abbrev pub asksReceivers : Command → Bool
+asksReceivers (Do s e w) = false
+asksReceivers (Reserve s) = false
+asksReceivers (Deliver s) = true
+asksReceivers (Take s e) = false
+asksReceivers (Run s) = false
+asksReceivers (Expire s) = true
+asksReceivers (Cancel s) = false
+asksReceivers Tick = false
 
 -- 16: Deliver: a place is missing
 unfoldable pub notPlaced : State → Config → Command → Bool
@@ -133,12 +148,10 @@ sendFirst here c (Expire s) = canDeliver here c s
 sendFirst here c (Cancel s) = false
 sendFirst here c Tick = false
 
--- the rules from 11 on, in the order of their numbers
-abbrev pub rules : ℕ → State → Config → Command → List (Bool × ℕ)
-rules n here c k =
-    (noSubject n k, 11)
-    ∷ (notRunning c k, 12)
-    ∷ (wrongKind here k, 13)
+-- the rules from 13 on, in the order of their numbers
+abbrev pub kindRules : State → Config → Command → List (Bool × ℕ)
+kindRules here c k =
+    (wrongKind here k, 13)
     ∷ (noExit here k, 14)
     ∷ (noMessage here c k, 15)
     ∷ (notPlaced here c k, 16)
@@ -147,6 +160,15 @@ rules n here c k =
     ∷ (tooEarly here c k, 19)
     ∷ (sendFirst here c k, 20)
     ∷ []
+
+-- and from 11 on
+abbrev pub rules : ℕ → State → Config → Command → List (Bool × ℕ)
+rules n here c k = (noSubject n k, 11) ∷ (notRunning c k, 12) ∷ kindRules here c k
+
+-- the number of the first rule that holds, 0 where none does
+unfoldable pub firstNumber : List (Bool × ℕ) → ℕ
+firstNumber [] = 0
+firstNumber (rule ∷ rest) = cond (rule .0) (rule .1) (firstNumber rest)
 
 -- the first rule that holds refuses, with its number; where none does, what comes next
 unfoldable pub guarded : Config → List (Bool × ℕ) → Stepped → Stepped

@@ -4,9 +4,32 @@ ghost use mathlib.Core.Bool.{cond};
 ghost use Prim.Native.Nat.{_+_, _*_, _≤_};
 ghost use lib.Dec.{eqb};
 ghost use lib.ListN.{length, take, drop};
-ghost use Rattle.engine.specs.Commands.{subjectOf, commandFrom, codedIn};
+ghost use Rattle.engine.specs.Commands.{names, subjectOf, commandFrom, codedIn};
 use super::Coded;
 use super::Command;
+
+// Every command but Tick names a subject.
+pub(crate) fn names(k: Command) -> bool
+    ensures { λ r. ⌜ r ≡ names k ⌝ }
+{
+    match k {
+        Command::Do {
+            subject: _,
+            exit: _,
+            word: _,
+        } => true,
+        Command::Reserve { subject: _ } => true,
+        Command::Deliver { subject: _ } => true,
+        Command::Take {
+            subject: _,
+            exit: _,
+        } => true,
+        Command::Run { subject: _ } => true,
+        Command::Expire { subject: _ } => true,
+        Command::Cancel { subject: _ } => true,
+        Command::Tick => false,
+    }
+}
 
 // The subject of a command; of Tick 0.
 pub(crate) fn subject_of(k: Command) -> u8

@@ -1,12 +1,11 @@
 // What the accepted commands do to the configuration, Reserve aside.
 ghost use mathlib.Core.Path.{_≡_};
 ghost use Prim.Native.Nat.{_+_, _<_, _≤_, min};
-ghost use Rattle.sets.specs.declared.Found.the-variants.{At};
 ghost use Rattle.model.specs.Sizes.{mostSubjects};
 ghost use Rattle.model.specs.Valid.{exitAt};
 ghost use Rattle.pools.specs.Pools.{withdrawnFrom};
-ghost use Rattle.configs.specs.Subjects.{withPool};
-ghost use Rattle.engine.specs.Effects.{targetOf, enters, doing, started, deliveredAs, delivering, takingAt, runningOn, withdrawing, leaving, ticking};
+ghost use Rattle.configs.specs.Subjects.{at, put, withPool};
+ghost use Rattle.engine.specs.Effects.{targetOf, enters, isOwn, doneAs, wantedAt, tookAs, ranAs, ownAs, started, deliveredAs, delivering, leaving, ticking};
 use super::Command;
 use super::marks;
 use configs::Config;
@@ -15,6 +14,7 @@ use model::Exit;
 use model::MOST_EXITS;
 use model::MOST_SUBJECTS;
 use model::State;
+use sets::Found;
 
 // Exit e of a state, blank past the last place.
 pub(crate) fn exit_of(here: State, e: u8) -> Exit
@@ -63,16 +63,94 @@ fn enter_at(c: Config, s: u8, t: u8, end: bool) -> Config
     d
 }
 
+// Whether a command changes its own subject alone.
+pub(crate) fn is_own(k: Command) -> bool
+    ensures { λ r. ⌜ r ≡ isOwn k ⌝ }
+{
+    match k {
+        Command::Do {
+            subject: _,
+            exit: _,
+            word: _,
+        } => true,
+        Command::Reserve { subject: _ } => false,
+        Command::Deliver { subject: _ } => false,
+        Command::Take {
+            subject: _,
+            exit: _,
+        } => true,
+        Command::Run { subject: _ } => true,
+        Command::Expire { subject: _ } => false,
+        Command::Cancel { subject: _ } => false,
+        Command::Tick => false,
+    }
+}
+
 // Do: the word is set, the exit's target entered.
-pub(crate) fn do_exit(here: State, end: bool, c: Config, s: u8, e: u8, word: u32) -> Config
+fn do_own(here: State, end: bool, me: Subject, e: u8, word: u32) -> Subject
+    ensures { λ r. ⌜ r ≡ doneAs here end e word me ⌝ }
+{
+    let mut x = me;
+    x.word = word;
+    x.enter(exit_of(here, e).target, end)
+}
+
+// Take: the earliest message that matches is removed, its content becomes the word, the target is entered.
+fn take_own(here: State, end: bool, me: Subject, e: u8) -> Subject
+    ensures { λ r. ⌜ r ≡ tookAs (wantedAt here e me) here end e me ⌝ }
+{
+    let wanted = exit_of(here, e);
+    let found = pools::first_message(me.pool, wanted.sender, wanted.typ);
+    match found {
+        Found::At(i) => {
+            let taken = pools::take_at(me.pool, i);
+            let rest = taken.pool;
+            let mut x = me;
+            x.word = taken.content;
+            x.pool = rest;
+            x.enter(wanted.target, end)
+        }
+        Found::Nothing => me,
+    }
+}
+
+// Run: close marks, open unmarks, ask-empty looks; then the exit's target is entered.
+fn run_own(n: u8, here: State, end: bool, me: Subject) -> Subject
+    ensures { λ r. ⌜ r ≡ ranAs n here end me ⌝ }
+{
+    let e = marks::run_exit(here, me);
+    let x = marks::mark(n, here, me);
+    x.enter(exit_of(here, e).target, end)
+}
+
+// The subject after a command that changes it alone.
+pub(crate) fn own(n: u8, here: State, end: bool, me: Subject, k: Command) -> Subject
+    ensures { λ r. ⌜ r ≡ ownAs n here end me k ⌝ }
+{
+    match k {
+        Command::Do {
+            subject: _,
+            exit,
+            word,
+        } => do_own(here, end, me, exit, word),
+        Command::Reserve { subject: _ } => me,
+        Command::Deliver { subject: _ } => me,
+        Command::Take { subject: _, exit } => take_own(here, end, me, exit),
+        Command::Run { subject: _ } => run_own(n, here, end, me),
+        Command::Expire { subject: _ } => me,
+        Command::Cancel { subject: _ } => me,
+        Command::Tick => me,
+    }
+}
+
+// The configuration after a command that changes its own subject alone.
+pub(crate) fn own_at(n: u8, here: State, end: bool, c: Config, s: u8, k: Command) -> Config
     requires { ⌜ s < mostSubjects ⌝ }
-    ensures { λ r. ⌜ r ≡ doing here end c s e word ⌝ }
+    ensures { λ r. ⌜ r ≡ put c s (ownAs n here end (at c s) k) ⌝ }
 {
     let i = s as usize;
     let mut d = c;
-    let mut x = d.subjects[i];
-    x.word = word;
-    d.subjects[i] = x.enter(exit_of(here, e).target, end);
+    d.subjects[i] = own(n, here, end, d.subjects[i], k);
     d
 }
 
@@ -121,45 +199,12 @@ pub(crate) fn deliver(
     let mut r: usize = 0;
     while r < MOST_SUBJECTS {
         let receives = sets::has(here.receivers, r as u8);
-        let x = d.subjects[r];
-        let p = x.pool;
-        if sets::either(receives, p.count != 0) {
-            d.subjects[r] = deliver_to(receives, subjects[r].initial, s, word, x);
+        if sets::either(receives, d.subjects[r].pool.count != 0) {
+            d.subjects[r] = deliver_to(receives, subjects[r].initial, s, word, d.subjects[r]);
         }
         r += 1;
     }
     enter_at(d, s, exit_of(here, 0).target, end)
-}
-
-// Take: the message at place i is removed, its content becomes the word, the target is entered.
-pub(crate) fn take(here: State, end: bool, c: Config, s: u8, e: u8, i: usize) -> Config
-    requires { ⌜ s < mostSubjects ⌝ }
-    ensures { λ r. ⌜ r ≡ takingAt (At i) here end c s e ⌝ }
-{
-    let j = s as usize;
-    let mut d = c;
-    let me = d.subjects[j];
-    let taken = pools::take_at(me.pool, i);
-    let rest = taken.pool;
-    let mut x = me;
-    x.word = taken.content;
-    x.pool = rest;
-    d.subjects[j] = x.enter(exit_of(here, e).target, end);
-    d
-}
-
-// Run: close marks, open unmarks, ask-empty looks; then the exit's target is entered.
-pub(crate) fn run_state(n: u8, here: State, end: bool, c: Config, s: u8) -> Config
-    requires { ⌜ s < mostSubjects ⌝ }
-    ensures { λ r. ⌜ r ≡ runningOn n here end c s ⌝ }
-{
-    let i = s as usize;
-    let mut d = c;
-    let x = d.subjects[i];
-    let e = marks::run_exit(here, x);
-    let y = marks::mark(n, here, x);
-    d.subjects[i] = y.enter(exit_of(here, e).target, end);
-    d
 }
 
 // One subject as s withdraws.
@@ -179,10 +224,8 @@ pub(crate) fn leave(t: u8, end: bool, c: Config, s: u8) -> Config
     let mut d = c;
     let mut r: usize = 0;
     while r < MOST_SUBJECTS {
-        let x = d.subjects[r];
-        let p = x.pool;
-        if p.count != 0 {
-            d.subjects[r] = withdraw_at(s, x);
+        if d.subjects[r].pool.count != 0 {
+            d.subjects[r] = withdraw_at(s, d.subjects[r]);
         }
         r += 1;
     }

@@ -1,20 +1,30 @@
-// What a Deliver waits for.
+// The refusals of a step: the number of the first rule that holds, 0 where none does.
 ghost use mathlib.Core.Path.{_≡_};
-ghost use Prim.Native.Nat.{_<_};
-ghost use Rattle.model.specs.Sizes.{mostSubjects};
-ghost use Rattle.engine.specs.Rules.{placeMissing, someImproper, canDeliver};
+ghost use mathlib.Core.Bool.{true, false};
+ghost use Prim.Native.Nat.{ℕ, _<_};
+ghost use lib.Dec.{eqb};
+ghost use Rattle.configs.specs.Subjects.{at};
+ghost use Rattle.configs.specs.declared.Config.{Config};
+ghost use Rattle.engine.specs.Commands.{names, subjectOf, isCode};
+ghost use Rattle.engine.specs.Effects.{wantedAt};
+ghost use Rattle.engine.specs.Rules.{missesPlace, isNothing, someImproper, asksReceivers, kindRules, firstNumber};
+ghost use Rattle.engine.specs.Steps.{turnRules};
+ghost use Rattle.engine.specs.declared.Command.the-variants.{Do, Reserve, Deliver, Take, Run, Expire, Cancel};
+use super::Command;
+use super::commands;
+use super::effects;
 use configs::Config;
+use configs::Subject;
 use model::MOST_SUBJECTS;
 use model::State;
+use sets::Found;
 use sets::both;
 
-// A receiver has no place of s.
-pub(crate) fn place_missing(here: State, c: Config, s: u8) -> bool
-    requires { ⌜ s < mostSubjects ⌝ }
-    ensures { λ r. ⌜ r ≡ placeMissing here c s ⌝ }
+// A receiver is not in the mask.
+fn misses_place(here: State, mask: u16) -> bool
+    ensures { λ r. ⌜ r ≡ missesPlace here mask ⌝ }
 {
-    let me = c.subjects[s as usize];
-    sets::missing(here.receivers, me.mask) != 0
+    sets::missing(here.receivers, mask) != 0
 }
 
 // A receiver has ended improperly.
@@ -23,8 +33,7 @@ pub(crate) fn some_improper(here: State, c: Config) -> bool
 {
     let mut r: usize = 0;
     while r < MOST_SUBJECTS {
-        let x = c.subjects[r];
-        if both(sets::has(here.receivers, r as u8), x.mode == 3) {
+        if both(sets::has(here.receivers, r as u8), c.subjects[r].mode == 3) {
             return true;
         }
         r += 1;
@@ -32,13 +41,168 @@ pub(crate) fn some_improper(here: State, c: Config) -> bool
     false
 }
 
-// Deliver would be accepted.
-pub(crate) fn can_deliver(here: State, c: Config, s: u8) -> bool
-    requires { ⌜ s < mostSubjects ⌝ }
-    ensures { λ r. ⌜ r ≡ canDeliver here c s ⌝ }
+// No message matches the exit.
+fn no_message(here: State, exit: u8, me: Subject) -> bool
+    ensures { λ r. ⌜ r ≡ isNothing (wantedAt here exit me) ⌝ }
+{
+    let wanted = effects::exit_of(here, exit);
+    let found = pools::first_message(me.pool, wanted.sender, wanted.typ);
+    match found {
+        Found::At(_) => false,
+        Found::Nothing => true,
+    }
+}
+
+// Do.
+fn refuse_do(here: State, exit: u8) -> u8
+    ensures { λ r. ⌜ ((c : Config) (s w : ℕ) → r ≡ firstNumber (kindRules here c (Do s exit w))) ⌝ }
+{
+    if here.kind != 1 {
+        return 13;
+    }
+    if here.exits <= exit {
+        return 14;
+    }
+    0
+}
+
+// Reserve.
+fn refuse_reserve(here: State) -> u8
+    ensures { λ r. ⌜ ((c : Config) (s : ℕ) → r ≡ firstNumber (kindRules here c (Reserve s))) ⌝ }
+{
+    if here.kind != 2 { 13 } else { 0 }
+}
+
+// Deliver.
+fn refuse_deliver(here: State, mask: u16, improper: bool) -> u8
+    ensures { λ r. ⌜ ((c : Config) (s : ℕ) → at c s .mask ≡ mask → someImproper here c ≡ improper → r ≡ firstNumber (kindRules here c (Deliver s))) ⌝ }
 {
     if here.kind != 2 {
-        return false;
+        return 13;
     }
-    both(!place_missing(here, c, s), !some_improper(here, c))
+    if misses_place(here, mask) {
+        return 16;
+    }
+    if improper { 17 } else { 0 }
+}
+
+// Take.
+fn refuse_take(here: State, exit: u8, me: Subject) -> u8
+    ensures { λ r. ⌜ ((c : Config) (s : ℕ) → at c s ≡ me → r ≡ firstNumber (kindRules here c (Take s exit))) ⌝ }
+{
+    if here.kind != 3 {
+        return 13;
+    }
+    if here.exits <= exit {
+        return 14;
+    }
+    if no_message(here, exit, me) { 15 } else { 0 }
+}
+
+// Run.
+fn refuse_run(here: State) -> u8
+    ensures { λ r. ⌜ ((c : Config) (s : ℕ) → r ≡ firstNumber (kindRules here c (Run s))) ⌝ }
+{
+    if !sets::is_within(4, here.kind, 6) {
+        13
+    } else {
+        0
+    }
+}
+
+// Expire.
+fn refuse_expire(here: State, waited: u16, mask: u16, improper: bool) -> u8
+    ensures { λ r. ⌜ ((c : Config) (s : ℕ) → at c s .waited ≡ waited → at c s .mask ≡ mask → someImproper here c ≡ improper → r ≡ firstNumber (kindRules here c (Expire s))) ⌝ }
+{
+    if here.timeout == 255 {
+        return 18;
+    }
+    if waited < here.after {
+        return 19;
+    }
+    let placed = both(here.kind == 2, !misses_place(here, mask));
+    if both(placed, !improper) { 20 } else { 0 }
+}
+
+// Cancel.
+fn refuse_cancel(here: State) -> u8
+    ensures { λ r. ⌜ ((c : Config) (s : ℕ) → r ≡ firstNumber (kindRules here c (Cancel s))) ⌝ }
+{
+    if here.cancel == 255 { 18 } else { 0 }
+}
+
+// Whether the refusal depends on how the receivers ended.
+pub(crate) fn asks_receivers(k: Command) -> bool
+    ensures { λ r. ⌜ r ≡ asksReceivers k ⌝ }
+{
+    match k {
+        Command::Do {
+            subject: _,
+            exit: _,
+            word: _,
+        } => false,
+        Command::Reserve { subject: _ } => false,
+        Command::Deliver { subject: _ } => true,
+        Command::Take {
+            subject: _,
+            exit: _,
+        } => false,
+        Command::Run { subject: _ } => false,
+        Command::Expire { subject: _ } => true,
+        Command::Cancel { subject: _ } => false,
+        Command::Tick => false,
+    }
+}
+
+// The rules of the command's kind: 13 to 20.
+fn refuse_kind(here: State, me: Subject, improper: bool, k: Command) -> u8
+    ensures { λ r. ⌜ ((c : Config) → (names k ≡ true → at c (subjectOf k) ≡ me) → (asksReceivers k ≡ true → someImproper here c ≡ improper) → r ≡ firstNumber (kindRules here c k)) ⌝ }
+{
+    match k {
+        Command::Do {
+            subject: _,
+            exit,
+            word: _,
+        } => refuse_do(here, exit),
+        Command::Reserve { subject: _ } => refuse_reserve(here),
+        Command::Deliver { subject: _ } => refuse_deliver(here, me.mask, improper),
+        Command::Take { subject: _, exit } => refuse_take(here, exit, me),
+        Command::Run { subject: _ } => refuse_run(here),
+        Command::Expire { subject: _ } => refuse_expire(here, me.waited, me.mask, improper),
+        Command::Cancel { subject: _ } => refuse_cancel(here),
+        Command::Tick => 0,
+    }
+}
+
+// The refusal of a command by the fault that was found, its code, the state in which its subject is, the subject, and
+// whether a receiver has ended improperly.
+pub(crate) fn refuse(
+    fault: u8,
+    code: u8,
+    n: u8,
+    here: State,
+    me: Subject,
+    improper: bool,
+    k: Command,
+) -> u8
+    ensures { λ r. ⌜ ((c : Config) → (eqb fault 8 ≡ false → isCode code ≡ true → names k ≡ true → subjectOf k < n → at c (subjectOf k) ≡ me) → (asksReceivers k ≡ true → someImproper here c ≡ improper) → r ≡ firstNumber (turnRules fault code n here c k)) ⌝ }
+{
+    if fault == 8 {
+        return 8;
+    }
+    if !sets::is_within(1, code, 8) {
+        return 9;
+    }
+    if fault == 10 {
+        return 10;
+    }
+    if commands::names(k) {
+        if n <= commands::subject_of(k) {
+            return 11;
+        }
+        if me.mode != 1 {
+            return 12;
+        }
+    }
+    refuse_kind(here, me, improper, k)
 }

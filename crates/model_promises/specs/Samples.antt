@@ -1,10 +1,7 @@
--- Document 01's model P, and its three worked checks.
-use mathlib.Core.Bool.{cond}
-use mathlib.Core.List.{List, [], _∷_, _++_}
+-- Document 01's model P.
+use mathlib.Core.List.{List, _∷_, _++_}
 use Prim.Native.Nat.{ℕ}
-use lib.Dec.{eqb}
 use lib.ListN.{replicate}
-use Rattle.blocks.specs.Checks.{checkOf}
 use Rattle.model.specs.Records.{blankExit, blankRow, blankRows, blankState, blankSubject}
 use Rattle.model.specs.Rules.{any}
 use Rattle.model.specs.declared.Exit.{Exit}
@@ -40,12 +37,3 @@ modelP =
           ∷ endState
           ∷ replicate 478 blankState;
     }
-
--- no bytes give 1; [0] gives 33; [1, 2] gives 1,124
-unfoldable pub checks : List (List ℕ × ℕ)
-checks = ([], 1) ∷ (0 ∷ [], 33) ∷ (1 ∷ 2 ∷ [], 1124) ∷ []
-
--- those of the list whose check is another
-unfoldable pub failing : List (List ℕ × ℕ) → List (List ℕ × ℕ)
-failing [] = []
-failing (k ∷ ks) = cond (eqb (checkOf (k .0)) (k .1)) (failing ks) (k ∷ failing ks)

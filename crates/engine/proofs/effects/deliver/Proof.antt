@@ -23,13 +23,13 @@ loop-holds c = (search needs, sym (change-start _ _ _ _ (search length-mapped)))
 
 loop-again : tie.Need-loop-again Inv-loop μ-loop
 loop-again c =
-    let at = c .before .before .before .before .before .before in
-    let has = c .before .before .before .before .before .has in
+    let has = c .before .before .has in
+    let at = c .before .before .before in
     let inv = at .before .loop .inv in (
       search needs,
       either-way
           (c .if1 .came)
-          (λ w. ap (λ (d : Config). d .subjects) (w .2) ∙ changed-turn _ _ _ _ _ _ _ noOne (at .loop-test .taken) (inv .1) (rw (← has .ensures) (w .1 .ensures)))
+          (λ w. ap (λ (d : Config). d .subjects) (w .3) ∙ changed-turn _ _ _ _ _ _ _ noOne (at .loop-test .taken) (inv .1) (rw (← has .ensures) (w .2 .ensures)))
           (λ w. ap (λ (d : Config). d .subjects) (w .1)
           ∙ changed-still _ _ _ _ _ _ noOne (at .loop-test .taken) (inv .1) (rw (← has .ensures) (untouched-still _ _ _ _ _ (sym (c .before .either .ensures) ∙ w .0 .left)))),
     )
@@ -55,6 +55,8 @@ deliver-spec =
     (λ c. search needs)
     (λ c. search needs)
     (λ c κs. search needs)
+    (λ c. search needs)
+    (λ c. search needs)
     (λ c. search needs)
     (λ c. search needs)
     (λ c κs. search needs)

@@ -25,11 +25,11 @@ loop-holds c = (search needs, sym (change-start _ _ _ _ (search length-mapped)))
 
 loop-again : tie.Need-loop-again Inv-loop μ-loop
 loop-again c =
-    let at = c .before .before .before .before in
+    let at = c .before in
     let inv = at .before .loop .inv in (
       search needs,
       ⊎-elim
-          (λ w. ap (λ (d : Config). d .subjects) (w .2) ∙ changed-turn _ _ _ _ _ _ _ noOne (at .loop-test .taken) (inv .1) (w .1 .ensures))
+          (λ w. ap (λ (d : Config). d .subjects) (w .3) ∙ changed-turn _ _ _ _ _ _ _ noOne (at .loop-test .taken) (inv .1) (w .2 .ensures))
           (λ w. ap (λ (d : Config). d .subjects) (w .1) ∙ changed-still _ _ _ _ _ _ noOne (at .loop-test .taken) (inv .1) (withdrawn-still _ _ (w .0 .left)))
           (c .if1 .came),
     )
@@ -47,6 +47,8 @@ leave-spec =
     Inv-loop
     μ-loop
     loop-holds
+    (λ c. search needs)
+    (λ c. search needs)
     (λ c. search needs)
     (λ c. search needs)
     (λ c κs. search needs)

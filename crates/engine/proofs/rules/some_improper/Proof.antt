@@ -26,26 +26,29 @@ abbrev μ-loop : tie.MeasureT-loop
 loop-holds : tie.Need-loop-holds Inv-loop μ-loop
 loop-holds c = (search needs, some-start (test (c .args .here) (c .args .t2)))
 
-told : (c : tie.After-both Inv-loop μ-loop) →
-    let s = c .before .before .before .before .before .before in c .both .result ≡ test (s .args .here) (s .args .t2) (c .before .before .before .before .before .loop .r)
-told c = rw (c .both .ensures, c .before .before .has .ensures)
+told : (c : tie.After-both Inv-loop μ-loop)
+    → let at = c .before .before .before in c .both .result ≡ test (at .before .args .here) (at .before .args .t2) (at .loop .r)
+told c = rw (c .both .ensures, c .before .has .ensures)
 
 returns : tie.Need-returns Inv-loop μ-loop
 unfolding someImproper
 returns c =
-    let s = c .before .before .before .before .before .before .before in
-    sym (some-found (test (s .args .here) (s .args .t2)) _ _ (c .before .before .before .before .before .loop-test .taken) (sym (told (c .before)) ∙ c .if1 .taken))
+    let at = c .before .before .before in
+    let a = at .before .before .args in
+    sym (some-found (test (a .here) (a .t2)) _ _ (at .loop-test .taken) (sym (told (c .before)) ∙ c .if1 .taken))
 
 loop-again : tie.Need-loop-again Inv-loop μ-loop
 loop-again c =
-    let s = c .before .before .before .before .before .before .before in
-    (search needs, some-more (test (s .args .here) (s .args .t2)) _ (c .before .before .before .before .before .before .loop .inv .1) (sym (told (c .before)) ∙ c .if1 .left))
+    let at = c .before .before .before .before in
+    let a = at .before .args in
+    (search needs, some-more (test (a .here) (a .t2)) _ (at .loop .inv .1) (sym (told (c .before)) ∙ c .if1 .left))
 
 returns-2 : tie.Need-returns-2 Inv-loop μ-loop
 unfolding someImproper
 returns-2 c =
-    let s = c .before .before in
-    sym (some-end (test (s .args .here) (s .args .t2)) _ _ (c .before .loop .inv .0) (c .loop-test .left) (c .before .loop .inv .1))
+    let a = c .before .before .args in
+    let inv = c .before .loop .inv in
+    sym (some-end (test (a .here) (a .t2)) _ _ (inv .0) (c .loop-test .left) (inv .1))
 
 pub some-improper-spec : {M : Type 1} → statement M
 some-improper-spec =
@@ -55,9 +58,9 @@ some-improper-spec =
     μ-loop
     loop-holds
     (λ c. search needs)
-    (λ c. search needs)
-    (λ c. search needs)
     (λ c κs. search needs)
+    (λ c. search needs)
+    (λ c. search needs)
     (λ c κs. search needs)
     returns
     (λ c. search needs)

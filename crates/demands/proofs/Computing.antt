@@ -1,0 +1,105 @@
+-- Computing a run of model P or of the orchard: one name that opens every definition it meets (a law that computes says
+-- `unfolding computing`), and a shorter way to where it ends, without the test of the configuration at each step.
+use mathlib.Core.Path.{_≡_, refl, ap, _∙_}
+use mathlib.Core.Bool.{true}
+use mathlib.Core.List.{List, [], _∷_}
+use Prim.Native.Nat.{ℕ}
+use Rattle.sets.specs.Below as below
+use Rattle.sets.specs.Lists as lists
+use Rattle.sets.specs.Masks as masks
+use Rattle.blocks.specs.Checks as checks
+use Rattle.model.specs.Rules as model-rules
+use Rattle.model.specs.Valid.{valid}
+use Rattle.model.specs.Valid as model-valid
+use Rattle.model.specs.declared.Model.{Model}
+use Rattle.model_promises.specs.Samples as samples
+use Rattle.pools.specs.Entries as entries
+use Rattle.pools.specs.Pools as pools
+use Rattle.pools.specs.Rows as rows
+use Rattle.pools.specs.Valid as pool-valid
+use Rattle.configs.specs.Answers.{refusalOf}
+use Rattle.configs.specs.Fresh.{freshConfig}
+use Rattle.configs.specs.Fresh as fresh
+use Rattle.configs.specs.Shares as pool-shares
+use Rattle.configs.specs.Subjects.{Held}
+use Rattle.configs.specs.Subjects as subjects
+use Rattle.configs.specs.Valid.{configValid}
+use Rattle.configs.specs.Valid as config-valid
+use Rattle.configs.specs.declared.Config.{Config}
+use Rattle.configs.specs.declared.Stepped.{Stepped}
+use Rattle.configs.proofs.ValidLaws.{fresh-held, fresh-valid}
+use Rattle.engine.specs.Commands as commands
+use Rattle.engine.specs.Effects as effects
+use Rattle.engine.specs.Reserve as reserve
+use Rattle.engine.specs.Rules as rules
+use Rattle.engine.specs.Steps.{acted, stepped}
+use Rattle.engine.specs.Steps as steps
+use Rattle.engine.specs.Tapes as tapes
+use Rattle.engine.specs.declared.Command.{Command}
+use Rattle.engine_promises.specs.Runs.{runFrom}
+use Rattle.engine_promises.specs.Runs as runs
+use Rattle.engine_promises.proofs.Always.{step-keeps, step-held}
+use Rattle.demands.specs.Due.{refusal}
+use Rattle.demands.specs.Orchard as orchards
+use Rattle.demands.specs.Shares.{atLast}
+use Rattle.demands.specs.Shares as shares
+use Rattle.demands.proofs.Along.{fresh-is, last-valid, step-acts}
+
+-- the configuration after a list of commands that all meet a valid one: no step asks whether it is
+unfoldable pub actedFrom : Model → Config → List Command → Config
+actedFrom m c [] = c
+actedFrom m c (k ∷ ks) = actedFrom m (acted m c k .config) ks
+
+-- opens every definition that such a run meets
+unfoldable pub computing : Unit {0}
+unfolding
+    below.allBelow below.sumBelow below.tableFrom
+    lists.allOf lists.passing lists.counted lists.firstFrom lists.without lists.padded lists.folded
+    masks.bit masks.withBit masks.withoutBit masks.members masks.others
+    checks.checkOf
+    model-rules.shapeOf model-rules.namesFit model-rules.stateFits model-rules.exitFits model-rules.rowFits model-rules.stateReaches model-rules.exitReaches model-rules.rowReaches
+    model-valid.isBlankState model-valid.exitValid model-valid.stateOwn model-valid.stateValid model-valid.rowValid model-valid.subjectOwn model-valid.subjectValid model-valid.subjectRight model-valid.stateRight model-valid.exitsInAll model-valid.valid
+    samples.modelP
+    entries.matches entries.isMessage entries.reservedBy entries.delivered
+    pools.held pools.pooled pools.appended pools.firstMessage pools.takenAt pools.reservations pools.deliveredIn pools.withdrawnFrom
+    rows.rowCount rows.rowKept rows.rowHasRoom rows.rowsKept rows.hasRoom
+    pool-valid.entryValid pool-valid.placeValid pool-valid.poolValid pool-valid.isBlankPool
+    fresh.starting fresh.freshSubject fresh.freshConfig fresh.freshOf
+    pool-shares.rowsName pool-shares.noneTwice pool-shares.hasRow pool-shares.canSend pool-shares.sendersHaveRows pool-shares.limitsFit pool-shares.sharedOut pool-shares.shareOf
+    subjects.eachSubject subjects.entered subjects.nobody
+    config-valid.marksRight config-valid.fieldsRight config-valid.subjectValid config-valid.isNobody config-valid.subjectRight config-valid.placeRight config-valid.placesRight config-valid.configValid
+    commands.commandFrom
+    effects.runExit effects.targetOf effects.doing effects.started effects.deliveredAs effects.delivering effects.takingAt effects.taking effects.markFor effects.markAt effects.withMarks effects.marking effects.runningOn effects.withdrawing effects.leaving effects.ticked effects.ticking
+    reserve.isClosed reserve.replyOf reserve.withPlace reserve.noted reserve.turnAs reserve.turnOf reserve.rounds reserve.answered reserve.reserving
+    rules.noSubject rules.notRunning rules.wrongKind rules.noExit rules.noMessage rules.placeMissing rules.someImproper rules.notPlaced rules.improperReceiver rules.noTarget rules.tooEarly rules.canDeliver rules.sendFirst rules.guarded
+    steps.effect steps.acts steps.acted steps.stepped steps.codedAs
+    tapes.after tapes.lineAt
+    runs.runFrom actedFrom
+    orchards.orchard
+    shares.holds shares.limitOf
+computing = tt
+
+module _ (m : Model) (v : valid m ≡ true) where
+  -- from a valid configuration that is where a run ends
+  run-acts : (c : Config) (ks : List Command) → Held c → configValid m c ≡ true → runFrom m c ks ≡ actedFrom m c ks
+  unfolding runFrom actedFrom
+  run-acts c [] h g = refl
+  run-acts c (k ∷ ks) h g =
+      run-acts (stepped m c k .config) ks (step-held m c k v h g) (step-keeps m c k v h g)
+      ∙ ap (λ (x : Stepped). actedFrom m (x .config) ks) (step-acts m v c k g)
+
+  -- so from a fresh start
+  last-acts : (ks : List Command) → atLast m ks ≡ actedFrom m (freshConfig m) ks
+  last-acts ks = rw (fresh-is m v) (run-acts (freshConfig m) ks (fresh-held m) (fresh-valid m v))
+
+  -- what computes there holds after the commands
+  pub at-last : (P : Config → Type 0) (ks : List Command) → P (actedFrom m (freshConfig m) ks) → P (atLast m ks)
+  at-last P ks p = rw (last-acts ks) p
+
+  -- and after one more
+  pub at-next : (P : Stepped → Type 0) (ks : List Command) (k : Command) → P (acted m (actedFrom m (freshConfig m) ks) k) → P (stepped m (atLast m ks) k)
+  at-next P ks k p = rw (step-acts m v (atLast m ks) k (last-valid m v ks), last-acts ks) p
+
+  -- so the number of its refusal
+  pub refusal-next : {n : ℕ} (ks : List Command) (k : Command) → refusalOf (acted m (actedFrom m (freshConfig m) ks) k .answer) ≡ n → refusal m (atLast m ks) k ≡ n
+  refusal-next {n} ks k e = at-next (λ x. refusalOf (x .answer) ≡ n) ks k e

@@ -1,0 +1,14 @@
+pub mod Counting
+pub mod YesNo
+pub mod Along
+pub mod PoolMoves
+pub mod Senders
+pub mod Limits
+pub mod Chatter
+pub mod Timeouts
+pub mod EveryCall
+pub mod Computing
+pub mod SampleModels
+pub mod MarkedCases
+pub mod WrongEngines
+pub mod NotEmpty

@@ -1,0 +1,1 @@
+// The demands of the test desk, as theorems. No code.

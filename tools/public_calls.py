@@ -12,7 +12,8 @@ import pathlib
 import re
 import sys
 
-FUNCTION = re.compile(r'^[ \t]*pub (?:extern "C" )?fn (\w+)(.*?)\n[ \t]*\{\n', re.MULTILINE | re.DOTALL)
+# A head ends where its body begins: on a line of its own where there is a contract, else behind the parameters.
+FUNCTION = re.compile(r'^[ \t]*pub (?:extern "C" )?fn (\w+)(.*?)(?:\n[ \t]*| )\{\n', re.MULTILINE | re.DOTALL)
 
 
 def public_functions(crate):

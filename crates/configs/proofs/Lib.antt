@@ -2,3 +2,4 @@ pub mod Good
 pub mod ModelFacts
 pub mod IndexFacts
 pub mod ValidLaws
+pub mod FaultLaws

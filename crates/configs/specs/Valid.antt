@@ -1,5 +1,6 @@
 -- A valid configuration of a model: document 01's paragraph, a line for each clause.
 use mathlib.Core.Bool.{Bool, _&&_, _||_, not, cond}
+use mathlib.Core.List.{List}
 use Prim.Native.Nat.{ℕ}
 use lib.Dec.{eqb, leb, ltb}
 use lib.ListN.{length, getD}
@@ -7,7 +8,7 @@ use Rattle.sets.specs.Below.{allBelow}
 use Rattle.sets.specs.Masks.{bit, others}
 use Rattle.model.specs.Rules.{any}
 use Rattle.model.specs.Sizes.{mostSubjects}
-use Rattle.model.specs.Valid.{subjectAt, exitAt, valid}
+use Rattle.model.specs.Valid.{noState, noSubject, subjectAt, exitAt, valid}
 use Rattle.model.specs.declared.Model.{Model}
 use Rattle.model.specs.declared.State.{State}
 use Rattle.model.specs.declared.Subject as model-subject
@@ -71,8 +72,12 @@ isNobody x =
     ((eqb (x .mode) 0 && eqb (x .state) 0) && (eqb (x .waited) 0 && eqb (x .word) 0))
     && (eqb (x .mask) 0 && (marksRight 0 x && isBlankPool (x .pool)))
 
+-- subject s of n
+abbrev pub subjectRightIn : ℕ → model-subject.Subject → State → Subject → ℕ → Bool
+subjectRightIn n own here x s = cond (ltb s n) (subjectValid n own here x) (isNobody x)
+
 unfoldable pub subjectRight : Model → Config → ℕ → Bool
-subjectRight m c s = cond (ltb s (m .n)) (subjectValid (m .n) (subjectAt m s) (hereOf m c s) (at c s)) (isNobody (at c s))
+subjectRight m c s = subjectRightIn (m .n) (subjectAt m s) (hereOf m c s) (at c s) s
 
 -- ---- senders and receivers
 
@@ -97,3 +102,17 @@ configValid m c = allBelow (subjectRight m c) mostSubjects && placesRight m c
 -- 8: model not valid; 10: configuration not valid for the model; else 0
 unfoldable pub faultOf : Model → Config → ℕ
 faultOf m c = cond (valid m) (cond (configValid m c) 0 10) 8
+
+-- ---- the same by what is read of a model: whether it is valid, n, its subjects, and the state in which each subject is
+
+unfoldable pub placesRightIn : ℕ → List State → Config → Bool
+placesRightIn n here c =
+    allBelow (λ r. allBelow (λ s. placeRight s (at c s .mask) (typeOf (getD here s noState)) r (at c r .pool)) n) n
+
+unfoldable pub rightIn : ℕ → List model-subject.Subject → List State → Config → Bool
+rightIn n own here c =
+    leb n mostSubjects
+    && (allBelow (λ s. subjectRightIn n (getD own s noSubject) (getD here s noState) (at c s) s) mostSubjects && placesRightIn n here c)
+
+unfoldable pub faultIn : Bool → ℕ → List model-subject.Subject → List State → Config → ℕ
+faultIn v n own here c = cond v (cond (rightIn n own here c) 0 10) 8

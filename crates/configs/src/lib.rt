@@ -11,6 +11,7 @@ use pools::Pool;
 pub use shares::shared_out;
 pub use starts::fresh;
 pub use valid::fault;
+pub use valid::fault_in;
 pub use valid::is_valid;
 
 // A subject at work. Mode 0 is asleep, 1 running, 2 ended properly, 3 ended improperly; closed has for each sender a mask of types.

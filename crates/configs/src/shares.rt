@@ -1,12 +1,12 @@
 // Whether a pool is shared out: every sender has its own row, and the limits fit into the pool together.
 ghost use mathlib.Core.Path.{_≡_};
-ghost use mathlib.Core.Bool.{_||_, not, true};
+ghost use mathlib.Core.Bool.{not, true};
 ghost use Prim.Native.Nat.{_<_, _≤_};
 ghost use lib.Dec.{eqb};
 ghost use Rattle.sets.specs.Below.{allBelow};
-ghost use Rattle.model.specs.Sizes.{mostSubjects, mostRows};
-ghost use Rattle.model.specs.Valid.{subjectAt, rowAt, valid};
-ghost use Rattle.configs.specs.Shares.{rowNames, rowsName, noneTwice, hasRow, sendsTo, canSend, sendersHaveRows, limitsFit, sharedOut, shareOf};
+ghost use Rattle.model.specs.Sizes.{mostRows};
+ghost use Rattle.model.specs.Valid.{rowAt, valid};
+ghost use Rattle.configs.specs.Shares.{rowNames, rowsName, noneTwice, hasRow, sendsTo, canSend, sendersHaveRows, limitsFit, shareOf};
 use super::Share;
 use model::MOST_STATES;
 use model::Model;

@@ -1,10 +1,7 @@
 // The fresh start.
 ghost use mathlib.Core.Path.{_≡_};
 ghost use mathlib.Core.Bool.{cond};
-ghost use lib.Dec.{ltb};
-ghost use Rattle.sets.specs.Masks.{bit};
-ghost use Rattle.model.specs.Valid.{subjectAt};
-ghost use Rattle.configs.specs.Subjects.{allZero, nobody};
+ghost use Rattle.configs.specs.Subjects.{nobody};
 ghost use Rattle.configs.specs.Fresh.{starting, freshConfig, freshOf};
 use super::Answer;
 use super::Config;

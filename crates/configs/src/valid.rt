@@ -1,11 +1,13 @@
 // Whether a configuration is valid for a model.
 ghost use mathlib.Core.Path.{_≡_};
 ghost use mathlib.Core.Bool.{_&&_, true};
-ghost use Prim.Native.Nat.{_<_};
+ghost use Prim.Native.Nat.{_≤_};
+ghost use lib.ListN.{getD};
 ghost use Rattle.sets.specs.Below.{allBelow};
 ghost use Rattle.model.specs.Sizes.{mostSubjects};
-ghost use Rattle.model.specs.Valid.{valid};
-ghost use Rattle.configs.specs.Valid.{modeRight, stateThere, endRight, sleepRight, waitRight, maskRight, fieldsRight, marksRight, subjectValid, isNobody, subjectRight, placeRight, placesRight, configValid, faultOf};
+ghost use Rattle.model.specs.Valid.{noState, noSubject, valid};
+ghost use Rattle.configs.specs.Subjects.{at};
+ghost use Rattle.configs.specs.Valid.{endRight, sleepRight, maskRight, fieldsRight, marksRight, subjectValid, isNobody, subjectRightIn, placeRight, placesRightIn, configValid, faultIn, faultOf};
 use super::Config;
 use super::Subject;
 use model::MOST_STATES;
@@ -95,26 +97,23 @@ fn is_nobody(x: Subject) -> bool
     pools::is_blank_pool(x.pool)
 }
 
-// Every subject by itself is right.
-fn subjects_right(m: Model, c: Config) -> bool
-    requires { ⌜ valid m ≡ true ⌝ }
-    ensures { λ r. ⌜ r ≡ allBelow (subjectRight m c) mostSubjects ⌝ }
+// Every subject by itself is right; `here` has the state in which each is.
+fn subjects_right(
+    n: u8,
+    own: [model::Subject; MOST_SUBJECTS],
+    here: [State; MOST_SUBJECTS],
+    c: Config,
+) -> bool
+    ensures { λ r. ⌜ r ≡ allBelow (λ s. subjectRightIn n (getD own s noSubject) (getD here s noState) (at c s) s) mostSubjects ⌝ }
 {
-    let n = m.n;
     let mut s: usize = 0;
     while s < MOST_SUBJECTS {
-        let x = c.subjects[s];
         if s < n as usize {
-            let own = m.subjects[s];
-            if own.states <= x.state {
-                return false;
-            }
-            let here = m.states[s * MOST_STATES + x.state as usize];
-            if !subject_valid(n, own, here, x) {
+            if !subject_valid(n, own[s], here[s], c.subjects[s]) {
                 return false;
             }
         } else {
-            if !is_nobody(x) {
+            if !is_nobody(c.subjects[s]) {
                 return false;
             }
         }
@@ -128,6 +127,9 @@ fn place_right(s: u8, mask: u16, typ: u8, r: u8, p: Pool) -> bool
     ensures { λ q. ⌜ q ≡ placeRight s mask typ r p ⌝ }
 {
     let placed = sets::has(mask, r);
+    if p.count == 0 {
+        return !placed;
+    }
     let all = pools::reservations(p, s, 255);
     let own = pools::reservations(p, s, typ);
     if placed {
@@ -137,22 +139,20 @@ fn place_right(s: u8, mask: u16, typ: u8, r: u8, p: Pool) -> bool
 }
 
 // Every mask says where there are reservations.
-fn places_right(m: Model, c: Config) -> bool
-    requires { ⌜ valid m ≡ true ⌝ }
-    requires { ⌜ allBelow (subjectRight m c) mostSubjects ≡ true ⌝ }
-    ensures { λ r. ⌜ r ≡ placesRight m c ⌝ }
+fn places_right(n: u8, here: [State; MOST_SUBJECTS], c: Config) -> bool
+    requires { ⌜ n ≤ mostSubjects ⌝ }
+    ensures { λ r. ⌜ r ≡ placesRightIn n here c ⌝ }
 {
-    let n = m.n as usize;
+    let most = n as usize;
     let mut r: usize = 0;
-    while r < n {
+    while r < most {
         let to = c.subjects[r];
         let p = to.pool;
         let mut s: usize = 0;
-        while s < n {
-            let x = c.subjects[s];
-            let here = m.states[s * MOST_STATES + x.state as usize];
-            let exit = here.exit[0];
-            if !place_right(s as u8, x.mask, exit.typ, r as u8, p) {
+        while s < most {
+            let st = here[s];
+            let exit = st.exit[0];
+            if !place_right(s as u8, c.subjects[s].mask, exit.typ, r as u8, p) {
                 return false;
             }
             s += 1;
@@ -162,20 +162,44 @@ fn places_right(m: Model, c: Config) -> bool
     true
 }
 
+// The fault by what is read of the model: whether it is valid, n, its subjects, and the state in which each subject is.
+// A model that is passed on is copied, so who has one at hand reads these himself.
+pub fn fault_in(
+    valid: bool,
+    n: u8,
+    own: [model::Subject; MOST_SUBJECTS],
+    here: [State; MOST_SUBJECTS],
+    c: Config,
+) -> u8
+    ensures { λ r. ⌜ r ≡ faultIn valid n own here c ⌝ }
+{
+    if !valid {
+        return 8;
+    }
+    if MOST_SUBJECTS < n as usize {
+        return 10;
+    }
+    if !subjects_right(n, own, here, c) {
+        return 10;
+    }
+    if !places_right(n, here, c) {
+        return 10;
+    }
+    0
+}
+
 // 8 where the model is not valid, 10 where the configuration is not valid for it, else 0.
 pub fn fault(m: Model, c: Config) -> u8
     ensures { λ r. ⌜ r ≡ faultOf m c ⌝ }
 {
-    if !model::is_valid(m) {
-        return 8;
+    let valid = model::is_valid(m);
+    let mut here = [m.states[0]; MOST_SUBJECTS];
+    let mut s: usize = 0;
+    while s < MOST_SUBJECTS {
+        here[s] = m.states[s * MOST_STATES + (c.subjects[s].state % 32) as usize];
+        s += 1;
     }
-    if !subjects_right(m, c) {
-        return 10;
-    }
-    if !places_right(m, c) {
-        return 10;
-    }
-    0
+    fault_in(valid, m.n, m.subjects, here, c)
 }
 
 // The model is valid, and the configuration is valid for it.

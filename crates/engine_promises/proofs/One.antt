@@ -33,6 +33,8 @@ use Rattle.configs.proofs.fresh.Reads as configs-fresh-call
 use Rattle.configs.proofs.fresh.Kinds as configs-fresh-call-kinds
 use Rattle.configs.proofs.fault.Reads as configs-fault-call
 use Rattle.configs.proofs.fault.Kinds as configs-fault-call-kinds
+use Rattle.configs.proofs.fault_in.Reads as configs-fault-in-call
+use Rattle.configs.proofs.fault_in.Kinds as configs-fault-in-call-kinds
 use Rattle.configs.proofs.is_valid.Reads as configs-is-valid-call
 use Rattle.configs.proofs.is_valid.Kinds as configs-is-valid-call-kinds
 use Rattle.engine.proofs.step.Reads as engine-step-call
@@ -89,6 +91,9 @@ fresh-one κs a x y e p q = p ∙ sym q
 
 pub fault-one : OneResult 0 configs-fault-call-kinds.ps configs-fault-call-kinds.r configs-fault-call.Learnt
 fault-one κs a x y e p q = p ∙ sym q
+
+pub fault-in-one : OneResult 0 configs-fault-in-call-kinds.ps configs-fault-in-call-kinds.r configs-fault-in-call.Learnt
+fault-in-one κs a x y e p q = p ∙ sym q
 
 pub config-valid-one : OneResult 0 configs-is-valid-call-kinds.ps configs-is-valid-call-kinds.r configs-is-valid-call.Learnt
 config-valid-one κs a x y e p q = p ∙ sym q

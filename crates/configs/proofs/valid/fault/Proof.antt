@@ -1,49 +1,53 @@
-use mathlib.Core.Path.{sym, _∙_, _≡_}
-use mathlib.Core.Bool.{true}
-use borrow.Author.Tests.{not-true, not-false}
+use Prim.Native.Nat.{_≤_, _-_}
+use mathlib.Core.Path.{_∙_, _≡_, refl}
 use borrow.Author.Needs.{needs}
-use Rattle.sets.specs.Below.{allBelow}
-use Rattle.model.specs.Valid.{valid}
-use Rattle.configs.specs.Valid.{subjectRight, configValid, faultOf}
+use Rattle.sets.specs.Below.{filled}
+use Rattle.sets.proofs.Below.{fill-start, fill-turn, fill-end}
+use Rattle.model.specs.Valid.{stateAt}
+use Rattle.configs.proofs.FaultLaws.{readHere, fault-read}
 use Rattle.configs.proofs.valid.fault.Statement.{statement}
 use Rattle.configs.proofs.valid.fault.Tie as tie
 
-is-right : (c : tie.Else1) → valid (c .before .before .args .m) ≡ true
-is-right c = sym (c .before .is-valid .ensures) ∙ not-false _ (c .if1 .left)
+abbrev Inv-loop : tie.InvT-loop
+Inv-loop m c valid here₀ s₀ here s = (s ≤ 16) × (here ≡ filled (readHere m c) (stateAt m 0) 16 s)
 
-each-right : (c : tie.Else2) → allBelow (subjectRight (c .before .before .before .before .args .m) (c .before .before .before .before .args .c)) 16 ≡ true
-each-right c = sym (c .before .subjects-right .ensures) ∙ not-false _ (c .if2 .left)
+abbrev μ-loop : tie.MeasureT-loop
+μ-loop m c valid here₀ s₀ here s = 16 - s
 
-returns : tie.Need-returns
-unfolding faultOf
-returns c = rw (sym (c .before .is-valid .ensures) ∙ not-true _ (c .if1 .taken))
+loop-holds : tie.Need-loop-holds Inv-loop μ-loop
+loop-holds c = (search needs, fill-start _ _ _)
 
-subjects-right-requires : tie.Need-subjects-right-requires
-subjects-right-requires c κs = is-right c
+loop-again : tie.Need-loop-again Inv-loop μ-loop
+loop-again c = (search needs, rw (c .before .before .loop .inv .1) (fill-turn _ _ _ _ _ (c .before .loop-test .taken) refl))
 
-returns-2 : tie.Need-returns-2
-unfolding faultOf configValid
-returns-2 c = rw (is-right (c .before .before), sym (c .before .subjects-right .ensures) ∙ not-true _ (c .if2 .taken))
-
-places-right-requires : tie.Need-places-right-requires
-places-right-requires c κs = (is-right (c .before .before), each-right c)
-
-returns-3 : tie.Need-returns-3
-unfolding faultOf configValid
-returns-3 c = rw (is-right (c .before .before .before .before), each-right (c .before .before), sym (c .before .places-right .ensures) ∙ not-true _ (c .if3 .taken))
-
-returns-4 : tie.Need-returns-4
-unfolding faultOf configValid
-returns-4 c = rw (is-right (c .before .before .before .before), each-right (c .before .before), sym (c .before .places-right .ensures) ∙ not-false _ (c .if3 .left))
+returns : tie.Need-returns Inv-loop μ-loop
+returns c =
+    let at = c .before .before .before in
+    let start = at .before .before .before in
+    let full = at .loop .inv .1 ∙ fill-end _ _ _ _ (at .loop .inv .0) (c .before .before .loop-test .left) in
+    c .fault-in .ensures
+    ∙ rw (at .before .before .is-valid .ensures) (fault-read (start .args .t1) (start .args .t2) (at .loop .here) full)
 
 pub fault-spec : {M : Type 1} → statement M
 fault-spec =
     tie.close
     (tie.spec
+    Inv-loop
+    μ-loop
     (λ c κs. search needs)
-    returns
-    subjects-right-requires
-    returns-2
-    places-right-requires
-    returns-3
-    returns-4)
+    (λ c. search needs)
+    loop-holds
+    (λ c. search needs)
+    (λ c. search needs)
+    (λ c. search needs)
+    (λ c. search needs)
+    (λ c. search needs)
+    (λ c. search needs)
+    (λ c. search needs)
+    (λ c. search needs)
+    (λ c. search needs)
+    (λ c. search needs)
+    (λ c. search needs)
+    loop-again
+    (λ c κs. search needs)
+    returns)

@@ -1,62 +1,44 @@
-use Prim.Native.Nat.{_≤_, _-_, _<_}
+use Prim.Native.Nat.{_≤_, _-_}
 use mathlib.Core.Path.{sym, _∙_, _≡_}
 use mathlib.Core.Bool.{true}
-use native.Mathlib.Omega.{arith}
 use borrow.Author.Tests.{not-true, not-false}
 use borrow.Author.Needs.{needs}
+use lib.ListN.{getD}
 use Rattle.sets.specs.Below.{allBelow}
 use Rattle.sets.proofs.Below.{all-start, all-more, all-stop, all-end}
-use Rattle.configs.specs.Subjects.{at, hereOf}
-use Rattle.configs.specs.Valid.{placeRight, placesRight, typeOf}
-use Rattle.configs.proofs.ModelFacts.{n-high}
-use Rattle.configs.proofs.IndexFacts.{few-states, state-there}
+use Rattle.model.specs.Valid.{noState}
+use Rattle.configs.specs.Subjects.{at}
+use Rattle.configs.specs.Valid.{placeRight, placesRightIn, typeOf}
 use Rattle.configs.proofs.valid.places_right.Statement.{statement}
 use Rattle.configs.proofs.valid.places_right.Tie as tie
 
 abbrev Inv-loop2 : tie.InvT-loop2
-Inv-loop2 m c n r p s₀ s = (s ≤ n) × (allBelow (λ k. placeRight k (at c k .mask) (typeOf (hereOf m c k)) r p) s ≡ true)
+Inv-loop2 n here c most r p s₀ s = (s ≤ most) × (allBelow (λ k. placeRight k (at c k .mask) (typeOf (getD here k noState)) r p) s ≡ true)
 
 abbrev μ-loop2 : tie.MeasureT-loop2
-μ-loop2 m c n r p s₀ s = n - s
+μ-loop2 n here c most r p s₀ s = most - s
 
 abbrev Inv-loop : tie.InvT-loop
-Inv-loop m c n r₀ r =
-    (n ≤ 16) × (r ≤ n) × (allBelow (λ q. allBelow (λ k. placeRight k (at c k .mask) (typeOf (hereOf m c k)) q (at c q .pool)) (m .n)) r ≡ true)
+Inv-loop n here c most r₀ r =
+    (most ≤ 16) × (r ≤ most) × (allBelow (λ q. allBelow (λ k. placeRight k (at c k .mask) (typeOf (getD here k noState)) q (at c q .pool)) n) r ≡ true)
 
 abbrev μ-loop : tie.MeasureT-loop
-μ-loop m c n r₀ r = n - r
+μ-loop n here c most r₀ r = most - r
 
 loop-holds : tie.Need-loop-holds Inv-loop2 μ-loop2 Inv-loop μ-loop
-loop-holds c = (n-high _ (c .pre .0), search needs, all-start _)
+loop-holds c = (c .pre, search needs, all-start _)
 
 loop2-holds : tie.Need-loop2-holds Inv-loop2 μ-loop2 Inv-loop μ-loop
 loop2-holds c = (search needs, all-start _)
 
-there : (c : tie.After-x Inv-loop2 μ-loop2 Inv-loop μ-loop) → at (c .before .before .before .before .before .before .before .args .t2) (c .before .before .loop2 .s) .state < 32
-there c =
-    let s = c .before .before .loop2 .s in
-    let l = c .before .loop2-test .taken in
-    let at = c .before .before .before .before .before .before in
-    let start = at .before in
-    let small : s < 16 = omega (arith, l, at .loop .inv .0) in
-    omega (arith, state-there (start .args .t1) (start .args .t2) s small l (start .pre .1), few-states (start .args .t1) s (start .pre .0) small)
-
-cast-here : tie.Need-cast-here Inv-loop2 μ-loop2 Inv-loop μ-loop
-cast-here c = omega (arith, there (c .before))
-
-add-here : tie.Need-add-here Inv-loop2 μ-loop2 Inv-loop μ-loop
-add-here c = omega (arith, there (c .before), c .before .before .loop2-test .taken, c .before .before .before .before .before .before .before .loop .inv .0)
-
-element-copy-out-here : tie.Need-element-copy-out-here Inv-loop2 μ-loop2 Inv-loop μ-loop
-element-copy-out-here c = omega (arith, there (c .before), c .before .before .loop2-test .taken, c .before .before .before .before .before .before .before .loop .inv .0)
-
 returns : tie.Need-returns Inv-loop2 μ-loop2 Inv-loop μ-loop
-unfolding placesRight
+unfolding placesRightIn
 returns c =
-    sym (all-stop _ _ _ (c .before .before .before .before .before .before .before .before .before .before .loop-test .taken) (all-stop _ _ _ (c .before .before .before .before .before .before .loop2-test .taken) (sym (c .before .place-right .ensures) ∙ not-true _ (c .if1 .taken))))
+    let is = c .before .before .before .before in
+    sym (all-stop _ _ _ (is .before .before .before .before .loop-test .taken) (all-stop _ _ _ (is .loop2-test .taken) (sym (c .before .place-right .ensures) ∙ not-true _ (c .if1 .taken))))
 
 loop2-again : tie.Need-loop2-again Inv-loop2 μ-loop2 Inv-loop μ-loop
-loop2-again c = (search needs, all-more _ _ (c .before .before .before .before .before .before .before .loop2 .inv .1) (sym (c .before .place-right .ensures) ∙ not-false _ (c .if1 .left)))
+loop2-again c = (search needs, all-more _ _ (c .before .before .before .before .before .loop2 .inv .1) (sym (c .before .place-right .ensures) ∙ not-false _ (c .if1 .left)))
 
 loop-again : tie.Need-loop-again Inv-loop2 μ-loop2 Inv-loop μ-loop
 loop-again c =
@@ -64,7 +46,7 @@ loop-again c =
     (inv .0, search needs, all-more _ _ (inv .2) (all-end _ _ _ (c .before .loop2 .inv .0) (c .loop2-test .left) (c .before .loop2 .inv .1)))
 
 returns-2 : tie.Need-returns-2 Inv-loop2 μ-loop2 Inv-loop μ-loop
-unfolding placesRight
+unfolding placesRightIn
 returns-2 c = sym (all-end _ _ _ (c .before .loop .inv .1) (c .loop-test .left) (c .before .loop .inv .2))
 
 pub places-right-spec : {M : Type 1} → statement M
@@ -75,7 +57,6 @@ places-right-spec =
     μ-loop2
     Inv-loop
     μ-loop
-    (λ c. search needs)
     loop-holds
     (λ c. search needs)
     (λ c. search needs)
@@ -83,10 +64,7 @@ places-right-spec =
     (λ c. search needs)
     (λ c. search needs)
     (λ c. search needs)
-    cast-here
-    add-here
     (λ c. search needs)
-    element-copy-out-here
     (λ c. search needs)
     (λ c. search needs)
     (λ c. search needs)

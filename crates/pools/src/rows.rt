@@ -14,7 +14,6 @@ use super::searches;
 use model::MOST_ROWS;
 use model::Subject;
 use sets::both;
-use sets::either;
 
 // At most its limit of entries match row k, where the owner has one.
 fn row_kept(owner: Subject, k: usize, p: Pool) -> bool
@@ -41,7 +40,10 @@ fn row_has_room(owner: Subject, k: usize, p: Pool, sender: u8, typ: u8) -> bool
         entries::fitting(w.sender, sender),
         entries::fitting(w.typ, typ),
     );
-    either(!asked, searches::count(p, w.sender, w.typ) < w.limit)
+    if !asked {
+        return true;
+    }
+    searches::count(p, w.sender, w.typ) < w.limit
 }
 
 // Every limit row is kept.

@@ -1,4 +1,5 @@
-use borrow.Author.Tests.{lt-ltb, le-ltb}
+use mathlib.Core.Path.{sym, _∙_}
+use borrow.Author.Tests.{lt-ltb, le-ltb, not-true, not-false}
 use borrow.Author.Needs.{needs}
 use Rattle.pools.specs.Rows.{rowCount, rowHasRoom}
 use Rattle.pools.proofs.rows.row_has_room.Statement.{statement}
@@ -8,10 +9,16 @@ returns : tie.Need-returns
 returns c = rw (le-ltb _ _ (c .if1 .taken))
 
 returns-2 : tie.Need-returns-2
-unfolding rowHasRoom rowCount
+unfolding rowHasRoom
 returns-2 c =
+    let both = c .before in
+    rw (lt-ltb _ _ (both .before .before .before .before .if1 .left), ← both .before .before .fitting .ensures, ← both .before .fitting2 .ensures, sym (both .both .ensures) ∙ not-true _ (c .if2 .taken))
+
+returns-3 : tie.Need-returns-3
+unfolding rowHasRoom rowCount
+returns-3 c =
     let both = c .before .before .before in
-    rw (lt-ltb _ _ (both .before .before .before .before .if1 .left), c .either .ensures, c .before .before .count .ensures, both .both .ensures, both .before .fitting2 .ensures, both .before .before .fitting .ensures)
+    rw (lt-ltb _ _ (both .before .before .before .before .if1 .left), ← both .before .before .fitting .ensures, ← both .before .fitting2 .ensures, sym (both .both .ensures) ∙ not-false _ (c .before .before .if2 .left), c .before .count .ensures)
 
 pub row-has-room-spec : {M : Type 1} → statement M
 row-has-room-spec =
@@ -24,6 +31,6 @@ row-has-room-spec =
     (λ c κs. search needs)
     (λ c κs. search needs)
     (λ c κs. search needs)
+    returns-2
     (λ c κs. search needs)
-    (λ c κs. search needs)
-    returns-2)
+    returns-3)

@@ -1,0 +1,465 @@
+//! `desk bench`: the time of the proved and the second engine on the same models and tapes.
+
+use crate::args::*;
+use crate::compare::flat::{model_bytes, MODEL_BYTES};
+use crate::files;
+use crate::proved::{self, Engine};
+use crate::random::{command_for, Rng};
+use crate::second::*;
+use crate::text::model_parse::parse_model;
+use std::hint::black_box;
+use std::time::Instant;
+
+/// The commands of a tape that is run as a whole, and of one that is walked by public steps.
+const TAPE: usize = 100_000;
+const WALK: usize = 10_000;
+/// How often a file is loaded and a configuration copied in one run.
+const LOADS: usize = 200;
+const COPIES: usize = 100_000;
+
+/// As large as the paper's model P, but it never ends.
+const SMALL: &str = "
+subject scheduler starts
+  state measure internal
+    -> measure
+    -> report
+  state report send reading to valve
+    -> look
+    cancel -> measure
+  state look ask-empty any from any
+    empty -> measure
+    not-empty -> measure
+subject valve starts
+  limit any from scheduler 1
+  state wait receive
+    reading from scheduler -> act
+    timeout 3 -> act
+  state act internal
+    -> wait
+";
+
+/// A model with its file, where it starts, and the tapes for it.
+struct Course {
+    name: &'static str,
+    file: Vec<u8>,
+    start: Config,
+    tapes: Vec<(&'static str, Vec<u8>)>,
+}
+
+/// One thing that is timed: the nanoseconds of each run for both engines.
+struct Row {
+    model: &'static str,
+    what: String,
+    proved: Vec<f64>,
+    second: Vec<f64>,
+}
+
+/// Times both engines and prints a table in Markdown.
+pub fn main(given: &[String]) -> Outcome {
+    let args = Args::sort(given, &["--runs"], &[])?;
+    args.expect(&[])?;
+    let runs = args.number("--runs")?.unwrap_or(10);
+    if !(1..=1000).contains(&runs) {
+        return usage(format!("--runs: '{runs}' is no number from 1 to 1000"));
+    }
+    let engine = proved::engine()?;
+    if cfg!(debug_assertions) {
+        files::print(
+            "This is a debug build: the numbers say little. Use 'cargo build --release'.\n\n",
+        )?;
+    }
+    let (copies, rows) = measure(engine.as_ref(), runs);
+    files::print(&table(&copies, &rows, runs))
+}
+
+/// All rows of the table; each run times everything once.
+fn measure(engine: &dyn Engine, runs: u64) -> (Vec<f64>, Vec<Row>) {
+    let all = [small(), large()];
+    let mut rows: Vec<Row> = Vec::new();
+    let mut copies = Vec::new();
+    for run in 0..runs {
+        copies.push(copy_time(&all[0].start));
+        let mut place = 0;
+        for course in &all {
+            for (what, proved, second) in one_run(engine, course, run % 2 == 1) {
+                if run == 0 {
+                    rows.push(Row {
+                        model: course.name,
+                        what,
+                        proved: Vec::new(),
+                        second: Vec::new(),
+                    });
+                }
+                rows[place].proved.push(proved);
+                rows[place].second.push(second);
+                place += 1;
+            }
+        }
+    }
+    (copies, rows)
+}
+
+/// Loading, and every tape as a whole and walked: nanoseconds for the proved and the second engine.
+fn one_run(engine: &dyn Engine, s: &Course, second_first: bool) -> Vec<(String, f64, f64)> {
+    let mut times = Vec::new();
+    let (proved, second) = both(second_first, || load_proved(engine, s), || load_second(s));
+    times.push(("load".to_string(), proved, second));
+    for (name, tape) in &s.tapes {
+        let proved = || run_proved(engine, s, tape);
+        let (proved, second) = both(second_first, proved, || run_second(s, tape));
+        times.push((format!("tape step, {name}"), proved, second));
+    }
+    for (name, tape) in &s.tapes {
+        let tape = &tape[..WALK * 8];
+        let proved = || walk_proved(engine, s, tape);
+        let (proved, second) = both(second_first, proved, || walk_second(s, tape));
+        times.push((format!("public step, {name}"), proved, second));
+    }
+    times
+}
+
+/// Times both, in either order; the proved one's time stands first.
+fn both(second_first: bool, proved: impl Fn() -> f64, second: impl Fn() -> f64) -> (f64, f64) {
+    if second_first {
+        let second = second();
+        (proved(), second)
+    } else {
+        (proved(), second())
+    }
+}
+
+/// Nanoseconds for each of `count` parts of some work.
+fn time(count: usize, work: impl FnOnce()) -> f64 {
+    let began = Instant::now();
+    work();
+    began.elapsed().as_nanos() as f64 / count as f64
+}
+
+fn load_proved(engine: &dyn Engine, s: &Course) -> f64 {
+    let mut room = vec![0; MODEL_BYTES];
+    time(LOADS, || {
+        for _ in 0..LOADS {
+            black_box(engine.load(black_box(&s.file), &mut room));
+        }
+    })
+}
+
+/// The second engine loads and writes the same bytes.
+fn load_second(s: &Course) -> f64 {
+    time(LOADS, || {
+        for _ in 0..LOADS {
+            let model = load(black_box(&s.file)).unwrap_or_default();
+            black_box(model_bytes(&model));
+        }
+    })
+}
+
+fn run_proved(engine: &dyn Engine, s: &Course, tape: &[u8]) -> f64 {
+    let count = tape.len() / 8;
+    let mut lines = vec![0; count * 4];
+    let mut config = s.start.to_bytes();
+    time(count, || {
+        black_box(engine.run(&s.file, &mut config, tape, &mut lines));
+    })
+}
+
+/// The second engine loads the file too, as the proved one does.
+fn run_second(s: &Course, tape: &[u8]) -> f64 {
+    let mut config = s.start;
+    time(tape.len() / 8, || {
+        let model = load(&s.file).unwrap_or_default();
+        black_box(run_tape(&model, &mut config, tape));
+    })
+}
+
+fn walk_proved(engine: &dyn Engine, s: &Course, tape: &[u8]) -> f64 {
+    let mut config = s.start.to_bytes();
+    time(tape.len() / 8, || {
+        black_box(engine.walk(&s.file, &mut config, tape));
+    })
+}
+
+fn walk_second(s: &Course, tape: &[u8]) -> f64 {
+    let mut config = s.start;
+    time(tape.len() / 8, || {
+        let model = load(&s.file).unwrap_or_default();
+        for piece in tape.chunks_exact(8) {
+            let mut bytes = [0; 8];
+            bytes.copy_from_slice(piece);
+            black_box(step_coded(&model, &mut config, bytes));
+        }
+    })
+}
+
+/// Nanoseconds for a plain copy of a configuration.
+fn copy_time(config: &Config) -> f64 {
+    let mut to = *config;
+    time(COPIES, || {
+        for _ in 0..COPIES {
+            to = *black_box(config);
+            black_box(&mut to);
+        }
+    })
+}
+
+/// The small model at its fresh start.
+fn small() -> Course {
+    let model = parse_model(SMALL).map_or_else(|e| panic!("{e}"), |named| named.model);
+    let start = fresh(&model).1;
+    course("small", model, start, &[0])
+}
+
+/// Sixteen subjects of thirty states whose pools are full but for one place.
+fn large() -> Course {
+    let mut model = Model {
+        start: u16::MAX,
+        subjects: Vec::new(),
+    };
+    for s in 0..16u8 {
+        model.subjects.push(Subject {
+            initial: 0,
+            states: (0..5)
+                .flat_map(|group| large_states(s, group * 6))
+                .collect(),
+            limits: large_limits(s),
+        });
+    }
+    let mut start = fresh(&model).1;
+    for (s, actor) in (0u8..).zip(&mut start.subjects) {
+        for i in 0..15 {
+            let sender = (s + 16 - 1 - i % 3) % 16;
+            actor.pool.push(Entry {
+                sender,
+                typ: sender % 4,
+                message: true,
+                content: u32::from(i),
+            });
+        }
+    }
+    let all: Vec<u8> = (0..16).collect();
+    course("large", model, start, &all)
+}
+
+/// Six states from number `at` on: internal, send, receive, ask-empty, close, open.
+fn large_states(s: u8, at: u8) -> Vec<State> {
+    let exit = |target: u8, sender: u8, typ: u8| Exit {
+        target: target % 30,
+        sender,
+        typ,
+    };
+    let plain = |kind: u8, exits: Vec<Exit>| State {
+        exits,
+        ..State::plain(kind)
+    };
+    let next = |step: u8| exit(at + step, ANY, ANY);
+    let from = |back: u8| (s + 16 - back) % 16;
+    let receives = (1..4).map(|back| exit(at + 3, from(back), from(back) % 4));
+    let to = |ahead: u8| bit(usize::from((s + ahead) % 16));
+    vec![
+        plain(INTERNAL, vec![next(6), next(1), next(2)]),
+        State {
+            receivers: to(1) | to(2) | to(3),
+            duration: 5,
+            timeout: at,
+            cancel: at,
+            ..plain(SEND, vec![exit(at + 2, ANY, s % 4)])
+        },
+        State {
+            duration: 2,
+            timeout: at + 3,
+            cancel: at + 3,
+            ..plain(RECEIVE, receives.collect())
+        },
+        plain(ASK_EMPTY, vec![next(4), next(4)]),
+        State {
+            sender: from(1),
+            ..plain(CLOSE, vec![next(5)])
+        },
+        plain(OPEN, vec![next(6)]),
+    ]
+}
+
+/// Eight rows: two for each of the three senders, one for a type, one for all.
+fn large_limits(s: u8) -> Vec<Limit> {
+    let mut limits = Vec::new();
+    for back in 1..4 {
+        let sender = (s + 16 - back) % 16;
+        for typ in [sender % 4, ANY] {
+            let limit = 6;
+            limits.push(Limit { sender, typ, limit });
+        }
+    }
+    for typ in [0, ANY] {
+        let (sender, limit) = (ANY, 16);
+        limits.push(Limit { sender, typ, limit });
+    }
+    limits.sort_by_key(|l| (l.sender, l.typ));
+    limits
+}
+
+/// The commands of one subject that does, reserves and cancels.
+fn send_and_cancel(subject: u8) -> Vec<Command> {
+    let (exit, word) = (1, 35);
+    vec![
+        Command::Do {
+            subject,
+            exit,
+            word,
+        },
+        Command::Reserve { subject },
+        Command::Cancel { subject },
+    ]
+}
+
+/// The command of one subject that only does.
+fn do_only(subject: u8) -> Vec<Command> {
+    let (exit, word) = (0, 7);
+    vec![Command::Do {
+        subject,
+        exit,
+        word,
+    }]
+}
+
+/// A tape in which the subjects take turns.
+fn turns(subjects: &[u8], turn: fn(u8) -> Vec<Command>) -> Vec<u8> {
+    let commands = subjects.iter().cycle().flat_map(|s| turn(*s));
+    commands.take(TAPE).flat_map(|c| c.encode()).collect()
+}
+
+/// A model with its four tapes; the actors take turns in two of them.
+fn course(name: &'static str, model: Model, start: Config, actors: &[u8]) -> Course {
+    let tapes = vec![
+        ("ticks", Command::Tick.encode().repeat(TAPE)),
+        ("do", turns(actors, do_only)),
+        ("do/reserve/cancel", turns(actors, send_and_cancel)),
+        ("mix", mixed_tape(&model, &start)),
+    ];
+    Course {
+        name,
+        file: file_of(&model),
+        start,
+        tapes,
+    }
+}
+
+/// A tape of all commands, each accepted where it stands. Takes leave the pools nearly as full as they were.
+fn mixed_tape(model: &Model, start: &Config) -> Vec<u8> {
+    let mut rng = Rng::new(1);
+    let full = |c: &Config, s: u8| {
+        let s = usize::from(s);
+        c.subjects[s].pool.count + 3 >= start.subjects[s].pool.count
+    };
+    let mut config = *start;
+    let mut tape = Vec::with_capacity(TAPE * 8);
+    while tape.len() < TAPE * 8 {
+        let mut command = Command::Tick;
+        if rng.chance(90) {
+            let subject = rng.below(model.n()) as u8;
+            command = command_for(&mut rng, model, &config, subject);
+        }
+        if matches!(command, Command::Take { subject, .. } if !full(&config, subject)) {
+            continue;
+        }
+        if step_valid(model, &mut config, command).refusal() == 0 {
+            tape.extend(command.encode());
+        }
+    }
+    tape
+}
+
+/// The middle of some numbers, and the least and the most.
+fn spread(times: &[f64]) -> (f64, f64, f64) {
+    let mut sorted = times.to_vec();
+    sorted.sort_by(f64::total_cmp);
+    let half = sorted.len() / 2;
+    let median = match sorted.len() % 2 {
+        0 => (sorted[half - 1] + sorted[half]) / 2.0,
+        _ => sorted[half],
+    };
+    (median, sorted[0], sorted[sorted.len() - 1])
+}
+
+/// The table in Markdown.
+fn table(copies: &[f64], rows: &[Row], runs: u64) -> String {
+    let bytes = std::mem::size_of::<Config>();
+    let (copy, least, most) = spread(copies);
+    let mut text = format!(
+        "A plain copy of a configuration ({bytes} bytes): {} ns ({} to {}).\n\
+         Nanoseconds: median of {runs} runs (least to most). Copies: the median as copies of a configuration.\n\n",
+        ns(copy),
+        ns(least),
+        ns(most)
+    );
+    text += "| model | what | proved, ns | second, ns | proved / second | proved, copies | second, copies |\n";
+    text += "|---|---|---:|---:|---:|---:|---:|\n";
+    for row in rows {
+        let ratios: Vec<f64> = row
+            .proved
+            .iter()
+            .zip(&row.second)
+            .map(|(p, s)| p / s)
+            .collect();
+        let cell = |times: &[f64]| {
+            let (median, least, most) = spread(times);
+            format!("{} ({} to {})", ns(median), ns(least), ns(most))
+        };
+        let (ratio, low, high) = spread(&ratios);
+        text += &format!(
+            "| {} | {} | {} | {} | {ratio:.2} ({low:.2} to {high:.2}) | {:.2} | {:.2} |\n",
+            row.model,
+            row.what,
+            cell(&row.proved),
+            cell(&row.second),
+            spread(&row.proved).0 / copy,
+            spread(&row.second).0 / copy
+        );
+    }
+    text
+}
+
+/// Nanoseconds: with one place below 100.
+fn ns(value: f64) -> String {
+    if value < 99.95 {
+        format!("{value:.1}")
+    } else {
+        format!("{value:.0}")
+    }
+}
+
+#[cfg(test)]
+mod tests {
+    use super::*;
+
+    #[test]
+    fn models_and_starts_are_valid_and_every_command_is_accepted() {
+        for s in [small(), large()] {
+            let model = load(&s.file).unwrap();
+            assert!(config_valid(&model, &s.start), "{}", s.name);
+            for (name, tape) in &s.tapes {
+                assert_eq!(tape.len(), TAPE * 8);
+                let mut config = s.start;
+                let lines = run_tape(&model, &mut config, tape);
+                assert!(lines.iter().all(|l| l.refusal == 0), "{} {name}", s.name);
+                let codes = |c: u8| lines.iter().filter(|l| l.code == c).count();
+                let counts: Vec<usize> = (1..9).map(codes).collect();
+                println!("{} {name}: {counts:?}", s.name);
+                assert!(*name != "mix" || counts.iter().all(|c| *c > 1_000));
+                let pools: usize = config.subjects.iter().map(|a| a.pool.used().len()).sum();
+                println!("entries at the end {pools}");
+                assert!(s.name == "small" || pools >= 170, "{name}: {pools}");
+            }
+        }
+    }
+
+    #[test]
+    fn a_configuration_has_its_size() {
+        assert_eq!(std::mem::size_of::<Config>(), 3_328);
+    }
+
+    #[test]
+    fn the_middle_of_some_numbers() {
+        assert_eq!(spread(&[3.0, 1.0, 2.0]), (2.0, 1.0, 3.0));
+        assert_eq!(spread(&[4.0, 1.0, 2.0, 3.0]), (2.5, 1.0, 4.0));
+    }
+}

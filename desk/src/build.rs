@@ -1,0 +1,39 @@
+//! `desk build`: model text to a model file.
+
+use crate::args::*;
+use crate::files;
+use crate::second::*;
+use crate::text::model_parse::parse_model;
+
+/// Builds the model file of a text.
+pub fn main(given: &[String]) -> Outcome {
+    let args = Args::sort(given, &["-o"], &[])?;
+    args.expect(&["the model text"])?;
+    let Some(target) = args.option("-o") else {
+        return usage("missing: -o and the file to write".to_string());
+    };
+    let path = &args.plain[0];
+    let text = files::read_text(path)?;
+    let named = parse_model(&text).map_err(|e| files::at(path, &e))?;
+    let file = file_of(&named.model);
+    files::write(target, &file)?;
+    files::print(&format!("{target}: {}\n", sizes(&named.model, &file)))
+}
+
+/// The sizes of a model and its file in words.
+pub fn sizes(model: &Model, file: &[u8]) -> String {
+    let count = |n: usize, one: &str, more: &str| {
+        let word = if n == 1 { one } else { more };
+        format!("{n} {word}")
+    };
+    let states = model.subjects.iter().map(|s| s.states.len()).sum();
+    let limits = model.subjects.iter().map(|s| s.limits.len()).sum();
+    [
+        count(file.len() / BLOCK, "block", "blocks"),
+        count(model.n(), "subject", "subjects"),
+        count(states, "state", "states"),
+        count(model.exits(), "exit", "exits"),
+        count(limits, "limit", "limits"),
+    ]
+    .join(", ")
+}

@@ -1,0 +1,89 @@
+//! Prints a trial that differs: the model, the tape, and what each engine said.
+
+use super::flat::{config_fields, value_of};
+use super::trial::{Call, Difference, Trial};
+use crate::second::*;
+use crate::show::{checks_aside, records_text, shown, trouble_text};
+use crate::text::names::Named;
+use crate::text::tape_print::tape_text;
+
+/// The most differing fields that are printed.
+const MOST_FIELDS: usize = 12;
+
+/// Everything about a trial that differs.
+pub fn difference_text(trial: &Trial, difference: &Difference) -> String {
+    let mut text = file_text(&trial.file);
+    if trial.has_tape() {
+        text += &start_text(trial);
+        let commands = match trial.tape.len() / 8 {
+            1 => "1 command".to_string(),
+            more => format!("{more} commands"),
+        };
+        text += &format!("\nthe tape, {commands}:\n");
+        text += &tape_text(&trial.tape, named(trial).as_ref());
+    }
+    text += &format!("\n{}", call_text(trial));
+    if let Some(i) = difference.command {
+        text += &format!(", command {} of the tape", i + 1);
+    }
+    text + ":\n" + &fields_text(difference)
+}
+
+/// The model as text, or the damaged file as it can still be read.
+fn file_text(file: &[u8]) -> String {
+    match load(file) {
+        Ok(model) => shown(&model, file),
+        Err(r) => {
+            trouble_text("the file", file, &r) + &checks_aside(file, &r) + &records_text(file)
+        }
+    }
+}
+
+/// The names that a tape from the fresh start is shown with.
+fn named(trial: &Trial) -> Option<Named> {
+    match (load(&trial.file), trial.start) {
+        (Ok(model), None) => Some(Named::unnamed(model)),
+        _ => None,
+    }
+}
+
+/// Where the tape starts: all fields that are not 0.
+fn start_text(trial: &Trial) -> String {
+    let Some(config) = trial.start else {
+        return "\nfrom the fresh start\n".to_string();
+    };
+    let bytes = config.to_bytes();
+    let mut text = "\nfrom this configuration, all else 0:\n".to_string();
+    for field in config_fields() {
+        match value_of(&field, &bytes) {
+            0 => {}
+            value => text += &format!("  {} {value}\n", field.name),
+        }
+    }
+    text
+}
+
+/// The call in words.
+fn call_text(trial: &Trial) -> String {
+    match trial.call {
+        Call::Load => "loading the file (zs_load)".to_string(),
+        Call::Shared => format!("is the pool of s{} shared out (zs_shared)", trial.owner),
+        Call::Fresh => "the fresh start (zs_fresh)".to_string(),
+        Call::Step => "step by step (zs_step)".to_string(),
+        Call::Run => "the whole tape (zs_run)".to_string(),
+        Call::Walk => "the whole tape by public steps (zs_walk)".to_string(),
+        Call::ShortBuffers => "with buffers one too short".to_string(),
+    }
+}
+
+/// What each engine said, a line a field.
+fn fields_text(difference: &Difference) -> String {
+    let mut text = format!("  {:<28}  {:<22}  proved engine\n", "", "second engine");
+    for d in difference.fields.iter().take(MOST_FIELDS) {
+        text += &format!("  {:<28}  {:<22}  {}\n", d.field, d.second, d.proved);
+    }
+    match difference.fields.len().saturating_sub(MOST_FIELDS) {
+        0 => text,
+        more => text + &format!("  and {more} more\n"),
+    }
+}

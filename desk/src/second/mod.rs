@@ -1,0 +1,16 @@
+//! The second engine: loader, configurations and steps written from the paper alone.
+
+pub mod config;
+pub mod load;
+pub mod share;
+pub mod step;
+pub mod types;
+
+#[cfg(test)]
+mod tests;
+
+pub use config::*;
+pub use load::*;
+pub use share::*;
+pub use step::*;
+pub use types::*;

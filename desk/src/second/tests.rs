@@ -1,0 +1,802 @@
+//! The paper's own examples, either side of each edge, and the errors that look right.
+
+use super::*;
+
+fn exit(target: u8, sender: u8, typ: u8) -> Exit {
+    Exit {
+        target,
+        sender,
+        typ,
+    }
+}
+
+fn state(kind: u8, exits: &[Exit]) -> State {
+    State {
+        exits: exits.to_vec(),
+        ..State::plain(kind)
+    }
+}
+
+/// Model P of the paper.
+pub fn model_p() -> Model {
+    let send = State {
+        receivers: 2,
+        cancel: 0,
+        ..state(SEND, &[exit(2, ANY, 0)])
+    };
+    let receive = State {
+        duration: 3,
+        timeout: 1,
+        ..state(RECEIVE, &[exit(1, 0, 0)])
+    };
+    let first = Subject {
+        initial: 0,
+        states: vec![state(INTERNAL, &[exit(1, ANY, ANY)]), send, state(END, &[])],
+        limits: vec![],
+    };
+    let second = Subject {
+        initial: 0,
+        states: vec![receive, state(END, &[])],
+        limits: vec![Limit {
+            sender: 0,
+            typ: ANY,
+            limit: 1,
+        }],
+    };
+    Model {
+        start: 3,
+        subjects: vec![first, second],
+    }
+}
+
+fn do_it(subject: u8, exit: u8, word: u32) -> Command {
+    Command::Do {
+        subject,
+        exit,
+        word,
+    }
+}
+
+const RESERVE_0: Command = Command::Reserve { subject: 0 };
+const DELIVER_0: Command = Command::Deliver { subject: 0 };
+const EXPIRE_1: Command = Command::Expire { subject: 1 };
+const TAKE_1: Command = Command::Take {
+    subject: 1,
+    exit: 0,
+};
+
+/// The configuration after these commands, all accepted.
+fn after(model: &Model, commands: &[Command]) -> Config {
+    let (refusal, mut config) = fresh(model);
+    assert_eq!(refusal, 0);
+    for c in commands {
+        assert_eq!(step(model, &mut config, *c).refusal(), 0, "{c:?}");
+        assert!(config_valid(model, &config), "{c:?}");
+    }
+    config
+}
+
+fn refusal_after(model: &Model, commands: &[Command], last: Command) -> u8 {
+    let mut config = after(model, commands);
+    let before = config;
+    let refusal = step(model, &mut config, last).refusal();
+    assert!(refusal == 0 || config == before);
+    refusal
+}
+
+fn entry(sender: u8, typ: u8, message: bool, content: u32) -> Entry {
+    Entry {
+        sender,
+        typ,
+        message,
+        content,
+    }
+}
+
+#[test]
+fn checks() {
+    assert_eq!(check(&[]), 1);
+    assert_eq!(check(&[0]), 33);
+    assert_eq!(check(&[1, 2]), 1124);
+}
+
+#[test]
+fn model_p_loads_from_its_file() {
+    let p = model_p();
+    assert!(model_valid(&p));
+    let file = file_of(&p);
+    assert_eq!(file.len(), 4 * BLOCK);
+    assert_eq!(load(&file), Ok(p));
+}
+
+#[test]
+fn model_p_prints_seven_lines() {
+    let tape = [
+        do_it(0, 0, 35),
+        RESERVE_0,
+        TAKE_1,
+        DELIVER_0,
+        TAKE_1,
+        Command::Tick,
+        do_it(0, 0, 9),
+    ];
+    let bytes: Vec<u8> = tape.iter().flat_map(|c| c.encode()).collect();
+    let p = model_p();
+    let mut config = fresh(&p).1;
+    let lines = run_tape(&p, &mut config, &bytes);
+    let shown: Vec<String> = lines
+        .iter()
+        .enumerate()
+        .map(|(i, l)| {
+            let Line {
+                code,
+                subject,
+                refusal,
+                state,
+                word,
+                entries,
+            } = l;
+            format!(
+                "{} {code} {subject} {refusal} {state} {word} {entries}",
+                i + 1
+            )
+        })
+        .collect();
+    let expected = [
+        "1 1 0 0 1 35 0",
+        "2 2 0 0 1 35 0",
+        "3 4 1 15 0 0 1",
+        "4 3 0 0 2 35 0",
+        "5 4 1 0 1 35 0",
+        "6 8 0 0 2 35 0",
+        "7 1 0 12 2 35 0",
+    ];
+    assert_eq!(shown, expected);
+}
+
+#[test]
+fn cancel_empties_the_pool() {
+    let p = model_p();
+    let cancel = Command::Cancel { subject: 0 };
+    let config = after(&p, &[do_it(0, 0, 35), RESERVE_0, cancel]);
+    assert_eq!(config.subjects[1].pool, Pool::default());
+    assert_eq!(config.subjects[0].state, 0);
+    let commands = [do_it(0, 0, 35), RESERVE_0, cancel];
+    assert_eq!(refusal_after(&p, &commands, TAKE_1), 15);
+}
+
+#[test]
+fn reserve_again_places_nothing() {
+    let p = model_p();
+    let mut config = after(&p, &[do_it(0, 0, 35), RESERVE_0]);
+    let nothing = Answer::Reserved {
+        placed: 0,
+        improper: 0,
+        closed: 0,
+        full: 0,
+        missing: 0,
+    };
+    assert_eq!(step(&p, &mut config, RESERVE_0), nothing);
+}
+
+#[test]
+fn expire_either_side_of_the_duration() {
+    let p = model_p();
+    let tick = Command::Tick;
+    assert_eq!(refusal_after(&p, &[tick, tick], EXPIRE_1), 19);
+    let config = after(&p, &[tick, tick, tick, EXPIRE_1]);
+    assert_eq!(config.subjects[1].state, 1);
+    assert_eq!(config.subjects[1].mode, ENDED);
+}
+
+#[test]
+fn expire_with_a_reservation_waiting_ends_improperly() {
+    let p = model_p();
+    let tick = Command::Tick;
+    let commands = [do_it(0, 0, 35), RESERVE_0, tick, tick, tick, EXPIRE_1];
+    let config = after(&p, &commands);
+    assert_eq!(config.subjects[1].mode, ENDED_IMPROPERLY);
+    assert_eq!(refusal_after(&p, &commands, DELIVER_0), 17);
+}
+
+#[test]
+fn deliver_without_a_place_and_subject_two() {
+    let p = model_p();
+    assert_eq!(refusal_after(&p, &[do_it(0, 0, 35)], DELIVER_0), 16);
+    let two = Command::Reserve { subject: 2 };
+    assert_eq!(refusal_after(&p, &[], two), 11);
+    assert_eq!(refusal_after(&p, &[], RESERVE_0), 13);
+    assert_eq!(refusal_after(&p, &[], do_it(0, 1, 5)), 14);
+    assert_eq!(refusal_after(&p, &[], Command::Expire { subject: 0 }), 18);
+}
+
+/// The file of P with its limit set to this, check and all made right again.
+fn p_with_limit(limit: u8) -> Vec<u8> {
+    let mut p = model_p();
+    p.subjects[1].limits[0].limit = limit;
+    file_of(&p)
+}
+
+#[test]
+fn limits_either_side_of_the_edge() {
+    assert!(load(&p_with_limit(16)).is_ok());
+    for wrong in [0, 17] {
+        let refused = load(&p_with_limit(wrong)).unwrap_err();
+        assert_eq!((refused.number, refused.block), (4, 3));
+    }
+}
+
+#[test]
+fn lengths_either_side_of_the_edge() {
+    for length in [0, 511, 513, 44 * BLOCK] {
+        let refused = load(&vec![0; length]).unwrap_err();
+        assert_eq!((refused.number, refused.block), (1, 0), "{length}");
+    }
+    let refused = load(&vec![0; 43 * BLOCK]).unwrap_err();
+    assert_eq!((refused.number, refused.block), (2, 0));
+}
+
+/// P with a change made to block b, the check made right again.
+fn p_changed(b: usize, change: impl Fn(&mut [u8])) -> Result<Model, (u8, u16)> {
+    let mut file = file_of(&model_p());
+    let block = &mut file[b * BLOCK..(b + 1) * BLOCK];
+    change(block);
+    let sum = check(&block[..508]).to_le_bytes();
+    block[508..].copy_from_slice(&sum);
+    load(&file).map_err(|r| (r.number, r.block))
+}
+
+#[test]
+fn stages_two_and_three() {
+    let mut file = file_of(&model_p());
+    file[2 * BLOCK + 9] ^= 1;
+    let refused = load(&file).unwrap_err();
+    assert_eq!((refused.number, refused.block), (2, 2));
+    assert_eq!(p_changed(2, |b| b[0] = 3), Err((3, 2)));
+    assert_eq!(p_changed(1, |b| b[2] = 1), Err((3, 0)));
+    assert_eq!(p_changed(1, |b| b[2] = 4), Err((3, 2)));
+    assert_eq!(p_changed(2, |b| b[2] = 1), Err((3, 2)));
+    assert_eq!(p_changed(2, |b| b[2] = 5), Err((3, 2)));
+    assert_eq!(p_changed(2, |b| b[3] = 0), Err((3, 2)));
+    assert_eq!(p_changed(2, |b| b[3] = 43), Err((3, 2)));
+    assert_eq!(p_changed(2, |b| b[507] = 1), Err((3, 2)));
+    assert_eq!(p_changed(2, |b| b[2] = 2), Err((3, 1)));
+}
+
+#[test]
+fn stage_four() {
+    let at = |record: usize, byte: usize| 4 + record * RECORD + byte;
+    let one = |b, record, byte, value| p_changed(b, move |x| x[at(record, byte)] = value);
+    assert_eq!(one(0, 0, 0, 0), Err((4, 0)));
+    assert_eq!(one(0, 0, 0, 17), Err((4, 0)));
+    assert_eq!(one(0, 0, 0, 3), Err((4, 0)));
+    assert_eq!(one(0, 2, 0, 0), Err((4, 0)));
+    assert_eq!(one(0, 1, 1, 33), Err((4, 0)));
+    assert_eq!(one(0, 1, 3, 1), Err((4, 0)));
+    assert_eq!(one(1, 0, 2, 8), Err((4, 1)));
+    assert_eq!(one(1, 0, 3, 9), Err((4, 1)));
+    assert_eq!(one(1, 0, 4, 0), Err((4, 1)));
+    assert_eq!(one(1, 0, 6, 1), Err((4, 1)));
+    assert_eq!(one(1, 0, 10, 1), Err((4, 1)));
+    assert_eq!(one(1, 1, 10, 0), Err((4, 1)));
+    assert_eq!(one(1, 2, 8, 0), Err((4, 1)));
+    assert_eq!(one(1, 1, 1, 0), Err((4, 1)));
+    assert_eq!(one(2, 0, 5, 0), Err((4, 2)));
+    assert_eq!(one(2, 2, 5, 32), Err((4, 2)));
+    assert_eq!(one(2, 2, 4, 255), Err((4, 2)));
+    assert_eq!(one(2, 2, 11, 1), Err((4, 2)));
+    assert_eq!(one(3, 0, 2, 32), Err((4, 3)));
+}
+
+#[test]
+fn stage_five() {
+    let at = |record: usize, byte: usize| 4 + record * RECORD + byte;
+    let one = |b, record, byte, value| p_changed(b, move |x| x[at(record, byte)] = value);
+    assert_eq!(one(0, 0, 1, 0), Err((5, 0)));
+    assert_eq!(one(0, 0, 1, 7), Err((5, 0)));
+    assert_eq!(one(0, 1, 2, 2), Err((5, 0)));
+    assert_eq!(one(0, 1, 2, 3), Err((5, 0)));
+    assert_eq!(one(0, 1, 1, 4), Err((5, 0)));
+    assert_eq!(one(1, 0, 3, 2), Err((5, 0)));
+    assert_eq!(one(1, 1, 9, 3), Err((5, 0)));
+    assert_eq!(one(1, 1, 10, 4), Err((5, 0)));
+    assert_eq!(one(2, 0, 3, 3), Err((5, 0)));
+    assert_eq!(one(2, 2, 4, 2), Err((5, 0)));
+    assert_eq!(one(2, 2, 2, 1), Err((5, 0)));
+    assert_eq!(one(3, 0, 0, 2), Err((5, 0)));
+    assert_eq!(one(3, 0, 1, 2), Err((5, 0)));
+    let no_state = |b: &mut [u8]| {
+        b[at(2, 1)] = 9;
+        b[at(2, 5)] = 77;
+    };
+    assert_eq!(p_changed(2, no_state), Err((5, 0)));
+}
+
+#[test]
+fn records_as_they_stand() {
+    let file = file_of(&model_p());
+    assert_eq!(record(&file, 0, 0)[..3], [2, 3, 0]);
+    assert_eq!(record(&file, 0, 2)[..3], [1, 2, 0]);
+    assert!(record(&file, 0, 3).is_empty());
+    assert!(record(&file, 4, 0).is_empty());
+    assert!(record(&file[..600], 1, 0).is_empty());
+    assert!(record(&file, usize::MAX, 0).is_empty());
+    let damaged = [255; BLOCK];
+    assert_eq!(record(&damaged, 0, 41).len(), RECORD);
+    assert!(record(&damaged, 0, 42).is_empty());
+}
+
+/// Two senders of type 0 with timeouts 1, one receiver that takes from both and may end.
+fn two_senders(limit: u8) -> Model {
+    let send = State {
+        receivers: 4,
+        duration: 1,
+        timeout: 0,
+        ..state(SEND, &[exit(0, ANY, 0)])
+    };
+    let sender = Subject {
+        initial: 0,
+        states: vec![state(INTERNAL, &[exit(1, ANY, ANY)]), send],
+        limits: vec![],
+    };
+    let receive = State {
+        cancel: 1,
+        ..state(RECEIVE, &[exit(0, 0, 0), exit(0, 1, 0)])
+    };
+    let row = Limit {
+        sender: ANY,
+        typ: ANY,
+        limit,
+    };
+    let receiver = Subject {
+        initial: 0,
+        states: vec![receive, state(END, &[])],
+        limits: vec![row],
+    };
+    Model {
+        start: 7,
+        subjects: vec![sender.clone(), sender, receiver],
+    }
+}
+
+const RESERVE_1: Command = Command::Reserve { subject: 1 };
+const DELIVER_1: Command = Command::Deliver { subject: 1 };
+
+#[test]
+fn reservations_count_against_a_limit() {
+    let m = two_senders(1);
+    let mut config = after(&m, &[do_it(0, 0, 5), do_it(1, 0, 6), RESERVE_0]);
+    let full = Answer::Reserved {
+        placed: 0,
+        improper: 0,
+        closed: 0,
+        full: 4,
+        missing: 1,
+    };
+    assert_eq!(step(&m, &mut config, RESERVE_1), full);
+    assert_eq!(config.subjects[2].pool.count, 1);
+}
+
+#[test]
+fn a_reservation_is_never_handed_over() {
+    let m = two_senders(2);
+    let take = Command::Take {
+        subject: 2,
+        exit: 0,
+    };
+    let commands = [do_it(0, 0, 5), RESERVE_0];
+    assert_eq!(refusal_after(&m, &commands, take), 15);
+}
+
+#[test]
+fn deliver_keeps_the_place_in_the_line() {
+    let m = two_senders(2);
+    let commands = [
+        do_it(0, 0, 5),
+        do_it(1, 0, 6),
+        RESERVE_0,
+        RESERVE_1,
+        DELIVER_1,
+        DELIVER_0,
+    ];
+    let config = after(&m, &commands);
+    let line = [entry(0, 0, true, 5), entry(1, 0, true, 6)];
+    assert_eq!(config.subjects[2].pool.used(), line);
+}
+
+#[test]
+fn a_timeout_does_not_win_over_a_send_that_can_deliver() {
+    let m = two_senders(1);
+    let expire = |subject| Command::Expire { subject };
+    let commands = [
+        do_it(0, 0, 5),
+        do_it(1, 0, 6),
+        RESERVE_0,
+        RESERVE_1,
+        Command::Tick,
+    ];
+    assert_eq!(refusal_after(&m, &commands, expire(0)), 20);
+    assert_eq!(refusal_after(&m, &commands, expire(1)), 0);
+}
+
+#[test]
+fn leaving_withdraws_every_reservation() {
+    let mut m = two_senders(2);
+    let send = &mut m.subjects[0].states[1];
+    send.receivers = 7;
+    send.cancel = 0;
+    let commands = [
+        do_it(0, 0, 5),
+        do_it(1, 0, 6),
+        RESERVE_0,
+        RESERVE_1,
+        Command::Cancel { subject: 0 },
+    ];
+    let config = after(&m, &commands);
+    assert_eq!(config.subjects[0].pool.count, 0);
+    assert_eq!(config.subjects[1].pool.count, 0);
+    assert_eq!(config.subjects[2].pool.used(), [entry(1, 0, false, 0)]);
+    assert_eq!(config.subjects[0].mask, 0);
+}
+
+#[test]
+fn close_open_and_ask_empty() {
+    let mut m = two_senders(16);
+    let mut close = state(CLOSE, &[exit(1, ANY, ANY)]);
+    close.sender = 0;
+    let ask = state(ASK_EMPTY, &[exit(2, ANY, ANY), exit(3, ANY, ANY)]);
+    let open = state(OPEN, &[exit(0, ANY, ANY)]);
+    m.subjects[2].states = vec![close, ask, open, state(END, &[])];
+    let run = Command::Run { subject: 2 };
+    let config = after(&m, &[run]);
+    assert_eq!(config.subjects[2].closed[..3], [u32::MAX, 0, 0]);
+    let mut config = after(&m, &[run, do_it(0, 0, 1)]);
+    let closed = Answer::Reserved {
+        placed: 0,
+        improper: 0,
+        closed: 4,
+        full: 0,
+        missing: 1,
+    };
+    assert_eq!(step(&m, &mut config, RESERVE_0), closed);
+    let config = after(&m, &[run, run, run]);
+    assert_eq!(config.subjects[2].closed, [0; 16]);
+    let config = after(&m, &[do_it(1, 0, 1), RESERVE_1, run, run]);
+    assert_eq!(config.subjects[2].mode, ENDED_IMPROPERLY);
+}
+
+#[test]
+fn deliver_starts_sleepers_and_keeps_their_marks() {
+    let mut m = two_senders(16);
+    m.start = 3;
+    let mut config = after(&m, &[do_it(0, 0, 8), RESERVE_0]);
+    config.subjects[2].closed[1] = 6;
+    assert_eq!(step(&m, &mut config, DELIVER_0), Answer::Done);
+    let receiver = &config.subjects[2];
+    assert_eq!((receiver.mode, receiver.state), (RUNNING, 0));
+    assert_eq!(receiver.closed[1], 6);
+    assert!(config_valid(&m, &config));
+}
+
+#[test]
+fn trusts_nobody() {
+    let p = model_p();
+    let mut config = fresh(&p).1;
+    let empty = Model::default();
+    assert_eq!(fresh(&empty), (8, Config::default()));
+    assert_eq!(step(&empty, &mut config, Command::Tick), Answer::Refused(8));
+    assert_eq!(step_coded(&empty, &mut config, [9; 8]), Answer::Refused(8));
+    config.subjects[0].mode = 4;
+    assert_eq!(step(&p, &mut config, Command::Tick), Answer::Refused(10));
+    assert_eq!(step_coded(&p, &mut config, [9; 8]), Answer::Refused(9));
+    let lines = run_tape(&p, &mut config, &[8, 1, 0, 0, 0, 0, 0, 0, 9, 1, 0]);
+    assert_eq!(lines.len(), 1);
+    assert_eq!((lines[0].refusal, lines[0].subject), (10, 0));
+}
+
+#[test]
+fn flat_bytes_either_way() {
+    let p = model_p();
+    let config = after(&p, &[do_it(0, 0, 35), RESERVE_0, Command::Tick]);
+    let bytes = config.to_bytes();
+    assert_eq!(Config::from_bytes(&bytes), config);
+    assert_eq!(bytes[..10], [1, 1, 1, 0, 35, 0, 0, 0, 2, 0]);
+    assert_eq!(bytes[ACTOR_BYTES + 74], 1);
+    let any = [7; CONFIG_BYTES];
+    assert!(Config::from_bytes(&any).subjects[3].pool.entries[2].message);
+}
+
+#[test]
+fn pools_shared_out() {
+    let p = model_p();
+    assert_eq!(shared_out(&p, 0), Share::Yes);
+    assert_eq!(shared_out(&p, 1), Share::Yes);
+    assert_eq!(shared_out(&p, 2), Share::Refused(11));
+    assert_eq!(shared_out(&Model::default(), 0), Share::Refused(8));
+    assert_eq!(shared_out(&two_senders(16), 2), Share::No);
+}
+
+/// The answer for the pool of the two senders with these rows of sender, type and limit.
+fn shared_by(rows: &[(u8, u8, u8)]) -> Share {
+    let mut model = two_senders(16);
+    let row = |&(sender, typ, limit): &(u8, u8, u8)| Limit { sender, typ, limit };
+    model.subjects[2].limits = rows.iter().map(row).collect();
+    assert!(model_valid(&model));
+    shared_out(&model, 2)
+}
+
+#[test]
+fn pools_shared_out_by_all_their_rows() {
+    assert_eq!(shared_by(&[(0, ANY, 8), (1, ANY, 8)]), Share::Yes);
+    assert_eq!(shared_by(&[(0, ANY, 8), (1, ANY, 9)]), Share::No);
+    assert_eq!(shared_by(&[(0, ANY, 8)]), Share::No);
+    assert_eq!(shared_by(&[]), Share::No);
+    assert_eq!(shared_by(&[(0, ANY, 1), (1, 0, 1)]), Share::No);
+    let one_more = [(0, ANY, 1), (1, 0, 1), (1, ANY, 1)];
+    assert_eq!(shared_by(&one_more), Share::No);
+    let any_sender = [(0, ANY, 1), (1, ANY, 1), (ANY, ANY, 1)];
+    assert_eq!(shared_by(&any_sender), Share::No);
+    let own = |limit| shared_by(&[(0, ANY, 4), (1, ANY, 4), (2, ANY, limit)]);
+    assert_eq!((own(8), own(9)), (Share::Yes, Share::No));
+}
+
+/// Sixteen subjects of 32 internal states with two exits each: 1,024 exits.
+fn largest() -> Model {
+    let two = state(INTERNAL, &[exit(0, ANY, ANY), exit(31, ANY, ANY)]);
+    let row = |i: u8| Limit {
+        sender: i,
+        typ: ANY,
+        limit: 16,
+    };
+    let subject = Subject {
+        initial: 31,
+        states: vec![two; 32],
+        limits: (0..8).map(row).collect(),
+    };
+    Model {
+        start: u16::MAX,
+        subjects: vec![subject; 16],
+    }
+}
+
+/// Validity, and the refusal of the model's file with its block.
+fn judged(model: &Model) -> (bool, Option<(u8, u16)>) {
+    let refused = load(&file_of(model)).err();
+    (model_valid(model), refused.map(|r| (r.number, r.block)))
+}
+
+#[test]
+fn sizes_either_side_of_the_edge() {
+    assert_eq!(file_of(&largest()).len(), MOST_BLOCKS * BLOCK);
+    assert_eq!(judged(&largest()), (true, None));
+    let mut exits = largest();
+    exits.subjects[0].limits.clear();
+    let extra = exit(0, ANY, ANY);
+    exits.subjects[15].states[31].exits.push(extra);
+    assert_eq!(judged(&exits), (false, Some((5, 0))));
+    let mut rows = largest();
+    rows.subjects[0].limits.clear();
+    rows.subjects[1].limits.push(Limit {
+        sender: 8,
+        typ: 0,
+        limit: 1,
+    });
+    assert_eq!(judged(&rows), (false, Some((5, 0))));
+    let mut subjects = model_p();
+    subjects.subjects = vec![subjects.subjects[0].clone(); 17];
+    assert_eq!(judged(&subjects), (false, Some((4, 0))));
+    let mut states = model_p();
+    let end = state(END, &[]);
+    states.subjects[1].states.resize(32, end.clone());
+    assert_eq!(judged(&states), (true, None));
+    states.subjects[1].states.push(end);
+    assert_eq!(judged(&states), (false, Some((4, 0))));
+}
+
+#[test]
+fn waits_stop_at_their_most() {
+    let p = model_p();
+    let mut config = fresh(&p).1;
+    config.subjects[0].waited = u16::MAX;
+    assert_eq!(step(&p, &mut config, Command::Tick), Answer::Done);
+    assert_eq!(config.subjects[0].waited, u16::MAX);
+    assert_eq!(config.subjects[1].waited, 1);
+}
+
+#[test]
+fn a_send_to_oneself() {
+    let mut m = two_senders(16);
+    m.subjects[0].states[1].receivers = 1;
+    m.subjects[0].states[1].exits[0].target = 2;
+    m.subjects[0].states[1].cancel = 2;
+    m.subjects[0].states.push(state(END, &[]));
+    let commands = [do_it(0, 0, 5), RESERVE_0, Command::Cancel { subject: 0 }];
+    assert_eq!(after(&m, &commands).subjects[0].mode, ENDED);
+    let commands = [do_it(0, 0, 5), RESERVE_0, DELIVER_0];
+    let config = after(&m, &commands);
+    assert_eq!(config.subjects[0].mode, ENDED_IMPROPERLY);
+    assert_eq!(config.subjects[0].pool.used(), [entry(0, 0, true, 5)]);
+}
+
+#[test]
+fn a_receiver_that_ended_properly_starts_again() {
+    let mut m = two_senders(16);
+    let cancel = Command::Cancel { subject: 2 };
+    let commands = [cancel, do_it(0, 0, 5), RESERVE_0];
+    let config = after(&m, &commands);
+    assert_eq!(config.subjects[2].mode, ENDED);
+    let config = after(&m, &[&commands[..], &[DELIVER_0]].concat());
+    let receiver = &config.subjects[2];
+    assert_eq!(
+        (receiver.mode, receiver.state, receiver.word),
+        (RUNNING, 0, 0)
+    );
+    m.subjects[2].limits[0].limit = 1;
+    let take = Command::Take {
+        subject: 2,
+        exit: 0,
+    };
+    let again = [
+        DELIVER_0,
+        take,
+        cancel,
+        do_it(0, 0, 7),
+        RESERVE_0,
+        DELIVER_0,
+    ];
+    let config = after(&m, &[&[do_it(0, 0, 5), RESERVE_0], &again[..]].concat());
+    assert_eq!(
+        (config.subjects[2].mode, config.subjects[2].word),
+        (RUNNING, 0)
+    );
+}
+
+/// Whether P after Do and Reserve is still valid with a change made.
+fn valid_with(change: impl Fn(&mut Config)) -> bool {
+    let p = model_p();
+    let mut config = after(&p, &[do_it(0, 0, 35), RESERVE_0]);
+    change(&mut config);
+    config_valid(&p, &config)
+}
+
+#[test]
+fn each_rule_of_a_valid_configuration() {
+    assert!(valid_with(|_| {}));
+    assert!(valid_with(|c| c.subjects[1].word = 7));
+    assert!(valid_with(|c| c.subjects[0].closed[1] = 7));
+    assert!(valid_with(|c| c.subjects[0]
+        .pool
+        .push(entry(1, 31, true, 9))));
+    assert!(!valid_with(|c| c.subjects[1].mode = 4));
+    assert!(!valid_with(|c| c.subjects[1].pool.count = 17));
+    assert!(!valid_with(|c| c.subjects[1].pool.entries[0].content = 1));
+    assert!(!valid_with(|c| c.subjects[2].state = 1));
+    assert!(!valid_with(|c| c.subjects[15].word = 1));
+    assert!(!valid_with(|c| c.subjects[0].closed[2] = 1));
+    assert!(!valid_with(|c| c.subjects[1].pool.entries[1].typ = 1));
+    assert!(!valid_with(|c| c.subjects[0]
+        .pool
+        .push(entry(2, 0, true, 9))));
+    assert!(!valid_with(|c| c.subjects[0]
+        .pool
+        .push(entry(1, 32, true, 9))));
+    assert!(!valid_with(|c| c.subjects[1]
+        .pool
+        .push(entry(0, 5, true, 9))));
+    assert!(!valid_with(|c| c.subjects[1].state = 2));
+    assert!(!valid_with(|c| c.subjects[1].state = 1));
+    assert!(!valid_with(|c| c.subjects[1].mode = ENDED));
+    assert!(!valid_with(|c| c.subjects[0].mask = 3));
+    assert!(!valid_with(|c| c.subjects[0].mask = 0));
+    assert!(!valid_with(|c| c.subjects[1].mask = 1));
+    assert!(!valid_with(|c| c.subjects[1].pool = Pool::default()));
+    assert!(!valid_with(|c| c.subjects[1].pool.entries[0].message = true));
+    assert!(!valid_with(|c| c.subjects[1].pool.entries[0].typ = 1));
+    assert!(!valid_with(|c| c.subjects[1].pool.entries[0].sender = 1));
+}
+
+#[test]
+fn rules_for_those_who_do_not_run() {
+    let asleep = |c: &mut Config| c.subjects[1].mode = ASLEEP;
+    let ended = |c: &mut Config| {
+        c.subjects[1].mode = ENDED_IMPROPERLY;
+        c.subjects[1].state = 1;
+    };
+    assert!(valid_with(asleep));
+    assert!(valid_with(ended));
+    let and = |first: fn(&mut Config), then: fn(&mut Actor)| {
+        valid_with(|c| {
+            first(c);
+            then(&mut c.subjects[1]);
+        })
+    };
+    assert!(!and(asleep, |a| a.word = 1));
+    assert!(and(ended, |a| a.word = 1));
+    assert!(!and(asleep, |a| a.state = 1));
+    assert!(!and(asleep, |a| a.waited = 1));
+    assert!(!and(ended, |a| a.waited = 1));
+    assert!(!and(ended, |a| a.mask = 1));
+}
+
+#[test]
+fn a_second_reservation_is_not_valid() {
+    let m = two_senders(16);
+    let mut config = after(&m, &[do_it(0, 0, 5), RESERVE_0]);
+    config.subjects[2].pool.push(entry(0, 0, false, 0));
+    assert!(!config_valid(&m, &config));
+}
+
+#[test]
+fn kinds_out_of_order() {
+    let mut file = file_of(&model_p());
+    let (before, last) = file.split_at_mut(3 * BLOCK);
+    before[2 * BLOCK + 2..].swap_with_slice(&mut last[2..]);
+    for block in file.chunks_exact_mut(BLOCK) {
+        let sum = check(&block[..508]).to_le_bytes();
+        block[508..].copy_from_slice(&sum);
+    }
+    let refused = load(&file).unwrap_err();
+    assert_eq!((refused.number, refused.block), (3, 3));
+}
+
+/// The marks of subject 2 after one Run in a state of this kind for type 4 from this sender.
+fn marks_after(kind: u8, sender: u8, marks: u32) -> [u32; 4] {
+    let mut m = two_senders(16);
+    m.subjects[2].states[0] = State {
+        sender,
+        typ: 4,
+        ..state(kind, &[exit(1, ANY, ANY)])
+    };
+    let mut config = after(&m, &[]);
+    config.subjects[2].closed[..3].fill(marks);
+    let run = Command::Run { subject: 2 };
+    assert_eq!(step(&m, &mut config, run), Answer::Done);
+    assert!(config_valid(&m, &config));
+    let closed = &config.subjects[2].closed;
+    [closed[0], closed[1], closed[2], closed[3]]
+}
+
+#[test]
+fn only_matching_marks_change() {
+    assert_eq!(marks_after(CLOSE, 1, 3), [3, 19, 3, 0]);
+    assert_eq!(marks_after(CLOSE, ANY, 3), [19, 19, 19, 0]);
+    assert_eq!(marks_after(OPEN, 1, 19), [19, 3, 19, 0]);
+    assert_eq!(marks_after(OPEN, ANY, 19), [3, 3, 3, 0]);
+}
+
+#[test]
+fn a_pool_of_sixteen_is_full() {
+    let mut m = two_senders(16);
+    m.subjects[2].limits.clear();
+    let round = [do_it(0, 0, 5), RESERVE_0, DELIVER_0];
+    let mut config = after(&m, &[&round.repeat(16)[..], &[do_it(0, 0, 5)]].concat());
+    assert_eq!(config.subjects[2].pool.count, 16);
+    let full = Answer::Reserved {
+        placed: 0,
+        improper: 0,
+        closed: 0,
+        full: 4,
+        missing: 1,
+    };
+    assert_eq!(step(&m, &mut config, RESERVE_0), full);
+}
+
+#[test]
+fn improper_goes_before_closed_and_closed_before_full() {
+    let m = two_senders(1);
+    let commands = [do_it(0, 0, 5), do_it(1, 0, 6), RESERVE_1];
+    let answer = |improper, closed, full| Answer::Reserved {
+        placed: 0,
+        improper,
+        closed,
+        full,
+        missing: 1,
+    };
+    let mut config = after(&m, &commands);
+    assert_eq!(step(&m, &mut config, RESERVE_0), answer(0, 0, 4));
+    config.subjects[2].closed[0] = 1;
+    assert_eq!(step(&m, &mut config, RESERVE_0), answer(0, 4, 0));
+    let cancel = Command::Cancel { subject: 2 };
+    assert_eq!(step(&m, &mut config, cancel), Answer::Done);
+    assert_eq!(step(&m, &mut config, RESERVE_0), answer(4, 0, 0));
+}

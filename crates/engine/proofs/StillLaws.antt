@@ -1,50 +1,100 @@
 -- Sweeps over the subjects that leave some as they are.
 use mathlib.Core.Path.{_≡_, refl, sym, _∙_}
-use mathlib.Core.Logic.{_⊎_, ⊎-elim}
-use mathlib.Core.Bool.{Bool, true, false, not, _||_}
+use mathlib.Core.Bool.{Bool, true, false, _&&_, not, cond, and-true, and-false}
 use mathlib.Core.List.{List}
-use Prim.Native.Nat.{ℕ, _+_, _<_}
-use borrow.Author.Tests.{eqb-true, not-false}
+use Prim.Native.Nat.{ℕ, _+_, _^_, _<_}
+use native.Mathlib.Omega.{arith}
+use borrow.Author.Tests.{eqb-true, eqb-false}
 use lib.Dec.{eqb}
-use lib.ListN.{getD}
-use lib.Seq.{set-getD}
-use Rattle.sets.specs.Below.{changed}
-use Rattle.sets.specs.Lists.{counted}
-use Rattle.sets.proofs.Below.{changed-turn}
-use Rattle.sets.proofs.Tests.{not-both}
+use lib.ListN.{length, getD, set, length-set}
+use lib.Seq.{set-getD, getD-set-same, getD-set-other}
+use Rattle.sets.specs.Below.{table, changed}
+use Rattle.sets.specs.Masks.{bit, parted}
+use Rattle.sets.specs.declared.Parts.{Parts}
+use Rattle.sets.proofs.Below.{table-of, table-same, changed-turn}
+use Rattle.sets.proofs.Masks.{Least, bit-zero}
+use Rattle.model.specs.Rules.{any}
 use Rattle.pools.specs.Pools.{held, reservations, deliveredIn, withdrawnFrom}
-use Rattle.pools.specs.declared.Pool.{Pool}
 use Rattle.configs.specs.Subjects.{withPool}
 use Rattle.configs.specs.declared.Subject.{Subject}
 use Rattle.engine.specs.Effects.{deliveredAs}
-
--- what follows from either follows
-pub either-way : {A B C : Type 0} → A ⊎ B → (A → C) → (B → C) → C
-either-way w f g = ⊎-elim f g w
 
 -- a turn that changes nothing, where nothing is to change
 pub changed-still : {A : Type 0} (f : ℕ → A → A) (d : A) (l : List A) (n i : ℕ) (now : List A) (e : A) → i < n
     → now ≡ changed f d l n i → f i (getD now i e) ≡ getD now i e → now ≡ changed f d l n (i + 1)
 changed-still f d l n i now e h p q = sym (set-getD now i e) ∙ changed-turn f d l n i now (getD now i e) e h p (sym q)
 
--- a pool without entries has no reservation
-withdraw-none : (s : ℕ) (p : Pool) → p .count ≡ 0 → withdrawnFrom s p ≡ p
-unfolding withdrawnFrom reservations held counted
-withdraw-none s p e = rw e
+-- ---- a loop that changes the members of a mask, from the lowest on
 
-deliver-none : (s w : ℕ) (p : Pool) → p .count ≡ 0 → deliveredIn s w p ≡ p
-unfolding deliveredIn reservations held counted
-deliver-none s w p e = rw e
+module _ {A : Type 0} (f : ℕ → A → A) (d : A) (n : ℕ) where
+  -- n places of the list, of which those in the mask are changed
+  unfoldable pub changedIn : List A → ℕ → List A
+  changedIn l mask = table (λ k. cond (bit mask k) (f k (getD l k d)) (getD l k d)) n
 
-pub withdrawn-still : (s : ℕ) (x : Subject) → x .pool .count ≡ 0 → withPool (withdrawnFrom s (x .pool)) x ≡ x
-withdrawn-still s x e = rw (withdraw-none s (x .pool) e)
+  -- the list as it has become, and the members that are left: with those changed it is what it is to be
+  pub record Left (l : List A) (mask : ℕ) (now : List A) (left : ℕ) : Type 0 where
+    pub small : left < 2 ^ n
+    pub size : length now ≡ n
+    pub comes : changedIn now left ≡ changedIn l mask
 
-delivered-still : (initial s w : ℕ) (x : Subject) → x .pool .count ≡ 0 → deliveredAs false initial s w x ≡ x
-unfolding deliveredAs
-delivered-still initial s w x e = rw (deliver-none s w (x .pool) e)
+  -- before the first turn
+  pub left-all : (l : List A) (mask : ℕ) → mask < 2 ^ n → length l ≡ n → Left l mask l mask
+  left-all l mask h e = record { small = h; size = e; comes = refl }
 
--- who is no receiver and has no entry
-pub untouched-still : (receives : Bool) (initial s w : ℕ) (x : Subject) → (receives || not (eqb (x .pool .count) 0)) ≡ false
-    → deliveredAs receives initial s w x ≡ x
-untouched-still true initial s w x e = not-both refl e
-untouched-still false initial s w x e = delivered-still initial s w x (eqb-true _ _ (not-false _ e))
+  -- the lowest member is changed, the others follow
+  lowest-changed : (now : List A) (left : ℕ) (p : Parts) (x : A) → length now ≡ n → Least n left → p ≡ parted n left
+      → x ≡ f (p .first) (getD now (p .first) d) → changedIn (set now (p .first) x) (p .rest) ≡ changedIn now left
+  unfolding changedIn
+  lowest-changed now left p x e low is q = table-same _ _ n (λ k _. at k (eqb k (p .first)) refl)
+    where
+      rest : (k : ℕ) → bit (p .rest) k ≡ (bit left k && not (eqb k (p .first)))
+      rest k = rw is (low .rest-bit k)
+
+      below : p .first < length now
+      below = rw (is, e) (low .below)
+
+      holds : bit left (p .first) ≡ true
+      holds = rw is (low .holds)
+
+      at : (k : ℕ) (b : Bool) → eqb k (p .first) ≡ b
+          → cond (bit (p .rest) k) (f k (getD (set now (p .first) x) k d)) (getD (set now (p .first) x) k d)
+          ≡ cond (bit left k) (f k (getD now k d)) (getD now k d)
+      at k true t = rw (rest k, t, and-false (bit left k), eqb-true k (p .first) t, getD-set-same now (p .first) x d below, holds) q
+      at k false t = rw (rest k, t, and-true (bit left k), getD-set-other now (p .first) k x d (eqb-false k (p .first) t))
+
+  -- a turn
+  pub left-turn : (l : List A) (mask : ℕ) (now : List A) (left : ℕ) (p : Parts) (x : A) → Left l mask now left → Least n left → p ≡ parted n left
+      → x ≡ f (p .first) (getD now (p .first) d) → Left l mask (set now (p .first) x) (p .rest)
+  left-turn l mask now left p x h low is q =
+      record {
+        small = rw is (omega (arith, low .less, h .small));
+        size = length-set now (p .first) x ∙ h .size;
+        comes = lowest-changed now left p x (h .size) low is q ∙ h .comes;
+      }
+
+  -- none is left: where the mask has all that g changes, g is done to each
+  pub left-none : (l : List A) (mask : ℕ) (now : List A) (left : ℕ) (g : ℕ → A → A) → Left l mask now left → left ≡ 0
+      → ((k : ℕ) → k < n → cond (bit mask k) (f k (getD l k d)) (getD l k d) ≡ g k (getD l k d)) → now ≡ table (λ k. g k (getD l k d)) n
+  unfolding changedIn
+  left-none l mask now left g h z same = sym (table-of _ n d now (h .size) (λ i _. rw (z, bit-zero i))) ∙ h .comes ∙ table-same _ _ n same
+
+-- ---- a pool without a reservation of s stays
+
+withdrawn-still : (s : ℕ) (x : Subject) → reservations s any (held (x .pool)) ≡ 0 → withPool (withdrawnFrom s (x .pool)) x ≡ x
+unfolding withdrawnFrom
+withdrawn-still s x e = rw e
+
+delivered-still : (initial s w : ℕ) (x : Subject) → reservations s any (held (x .pool)) ≡ 0 → deliveredAs false initial s w x ≡ x
+unfolding deliveredAs deliveredIn
+delivered-still initial s w x e = rw e
+
+-- so it need not be looked at
+pub withdrawn-in : (looked : Bool) (s : ℕ) (x : Subject) → (looked ≡ false → reservations s any (held (x .pool)) ≡ 0)
+    → cond looked (withPool (withdrawnFrom s (x .pool)) x) x ≡ withPool (withdrawnFrom s (x .pool)) x
+withdrawn-in true s x h = refl
+withdrawn-in false s x h = sym (withdrawn-still s x (h refl))
+
+pub delivered-in : (receives : Bool) (initial s w : ℕ) (x : Subject) → (receives ≡ false → reservations s any (held (x .pool)) ≡ 0)
+    → cond receives (deliveredAs true initial s w x) x ≡ deliveredAs receives initial s w x
+delivered-in true initial s w x h = refl
+delivered-in false initial s w x h = sym (delivered-still initial s w x (h refl))

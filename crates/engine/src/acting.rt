@@ -3,7 +3,9 @@ ghost use mathlib.Core.Path.{_≡_};
 ghost use Prim.Native.Nat.{_<_, _≤_};
 ghost use Rattle.model.specs.Sizes.{mostSubjects};
 ghost use Rattle.configs.specs.Answers.{done};
+ghost use Rattle.configs.specs.Subjects.{at};
 ghost use Rattle.engine.specs.Commands.{subjectOf};
+ghost use Rattle.engine.specs.Effects.{PlacedAmong};
 ghost use Rattle.engine.specs.Steps.{effect};
 use super::Command;
 use super::effects;
@@ -35,6 +37,8 @@ pub(crate) fn effect(
 ) -> Stepped
     requires { ⌜ n ≤ mostSubjects ⌝ }
     requires { ⌜ subjectOf k < mostSubjects ⌝ }
+    requires { ⌜ PlacedAmong (here .receivers) c (subjectOf k) ⌝ }
+    requires { ⌜ PlacedAmong (at c (subjectOf k) .mask) c (subjectOf k) ⌝ }
     ensures { λ r. ⌜ r ≡ effect n subjects here end c k ⌝ }
 {
     match k {

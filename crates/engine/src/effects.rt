@@ -1,11 +1,12 @@
 // What the accepted commands do to the configuration, Reserve aside.
 ghost use mathlib.Core.Path.{_≡_};
+ghost use mathlib.Core.Bool.{true};
 ghost use Prim.Native.Nat.{_+_, _<_, _≤_, min};
 ghost use Rattle.model.specs.Sizes.{mostSubjects};
 ghost use Rattle.model.specs.Valid.{exitAt};
 ghost use Rattle.pools.specs.Pools.{withdrawnFrom};
 ghost use Rattle.configs.specs.Subjects.{at, put, withPool};
-ghost use Rattle.engine.specs.Effects.{targetOf, enters, isOwn, doneAs, wantedAt, tookAs, ranAs, ownAs, started, deliveredAs, delivering, leaving, ticking};
+ghost use Rattle.engine.specs.Effects.{targetOf, enters, isOwn, doneAs, wantedAt, tookAs, ranAs, ownAs, started, deliveredAs, delivering, PlacedAmong, leaving, ticking};
 use super::Command;
 use super::marks;
 use configs::Config;
@@ -170,19 +171,17 @@ fn start(initial: u8, x: Subject) -> Subject
     y
 }
 
-// One subject as s delivers: reservations become messages, and a receiver starts.
-fn deliver_to(receives: bool, initial: u8, s: u8, word: u32, x: Subject) -> Subject
-    ensures { λ r. ⌜ r ≡ deliveredAs receives initial s word x ⌝ }
+// One receiver as s delivers: reservations become messages, and it starts.
+fn deliver_to(initial: u8, s: u8, word: u32, x: Subject) -> Subject
+    ensures { λ r. ⌜ r ≡ deliveredAs true initial s word x ⌝ }
 {
     let mut y = x;
     y.pool = pools::deliver(x.pool, s, word);
-    if receives {
-        return start(initial, y);
-    }
-    y
+    start(initial, y)
 }
 
-// Deliver: in every pool the sender's reservations become messages, receivers start, then the sender enters the target.
+// Deliver: in every pool the sender's reservations become messages, receivers start, then the sender enters the target. They
+// are in the pools of the receivers only.
 pub(crate) fn deliver(
     subjects: [model::Subject; MOST_SUBJECTS],
     here: State,
@@ -191,18 +190,17 @@ pub(crate) fn deliver(
     s: u8,
 ) -> Config
     requires { ⌜ s < mostSubjects ⌝ }
+    requires { ⌜ PlacedAmong (here .receivers) c s ⌝ }
     ensures { λ r. ⌜ r ≡ delivering subjects here end c s ⌝ }
 {
-    let i = s as usize;
     let mut d = c;
-    let word = d.subjects[i].word;
-    let mut r: usize = 0;
-    while r < MOST_SUBJECTS {
-        let receives = sets::has(here.receivers, r as u8);
-        if sets::either(receives, d.subjects[r].pool.count != 0) {
-            d.subjects[r] = deliver_to(receives, subjects[r].initial, s, word, d.subjects[r]);
-        }
-        r += 1;
+    let word = d.subjects[s as usize].word;
+    let mut left = here.receivers;
+    while left != 0 {
+        let p = sets::part(left);
+        let r = p.first as usize;
+        d.subjects[r] = deliver_to(subjects[r].initial, s, word, d.subjects[r]);
+        left = p.rest;
     }
     enter_at(d, s, exit_of(here, 0).target, end)
 }
@@ -216,18 +214,20 @@ fn withdraw_at(s: u8, x: Subject) -> Subject
     y
 }
 
-// Expire and Cancel: own reservations are withdrawn from all pools, then the target is entered.
+// Expire and Cancel: own reservations are withdrawn from all pools, then the target is entered. They are in the pools of
+// those in the mask only.
 pub(crate) fn leave(t: u8, end: bool, c: Config, s: u8) -> Config
     requires { ⌜ s < mostSubjects ⌝ }
+    requires { ⌜ PlacedAmong (at c s .mask) c s ⌝ }
     ensures { λ r. ⌜ r ≡ leaving t end c s ⌝ }
 {
     let mut d = c;
-    let mut r: usize = 0;
-    while r < MOST_SUBJECTS {
-        if d.subjects[r].pool.count != 0 {
-            d.subjects[r] = withdraw_at(s, d.subjects[r]);
-        }
-        r += 1;
+    let mut left = d.subjects[s as usize].mask;
+    while left != 0 {
+        let p = sets::part(left);
+        let r = p.first as usize;
+        d.subjects[r] = withdraw_at(s, d.subjects[r]);
+        left = p.rest;
     }
     enter_at(d, s, t, end)
 }

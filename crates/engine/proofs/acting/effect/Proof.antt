@@ -12,7 +12,7 @@ use Rattle.engine.proofs.acting.effect.Tie as tie
 
 -- the subject that the command names, as it was read from it, is one of the 16
 named : (start : tie.Start) {k : Command} → start .args .k ≡ k → subjectOf k < mostSubjects
-named start e = rw (← e) (start .pre .1)
+named start e = rw (← e) (start .pre .1 .0)
 
 own-at-requires : tie.Need-own-at-requires
 own-at-requires c κs = named (c .before .before .before) (c .before .k .given .1)
@@ -21,7 +21,10 @@ reserve-requires : tie.Need-reserve-requires
 reserve-requires c κs = named (c .before .before .before) (c .before .k2 .given .1)
 
 deliver-requires : tie.Need-deliver-requires
-deliver-requires c κs = named (c .before .before .before) (c .before .k3 .given .1)
+deliver-requires c κs =
+    let start = c .before .before .before in
+    let is = c .before .k3 .given .1 in
+    (named start is, rw is at (start .pre .1 .1 .0))
 
 own-at-requires-2 : tie.Need-own-at-requires-2
 own-at-requires-2 c κs = named (c .before .before .before) (c .before .k4 .given .1)
@@ -30,10 +33,16 @@ own-at-requires-3 : tie.Need-own-at-requires-3
 own-at-requires-3 c κs = named (c .before .before .before) (c .before .k5 .given .1)
 
 leave-requires : tie.Need-leave-requires
-leave-requires c κs = named (c .before .before .before) (c .before .k6 .given .1)
+leave-requires c κs =
+    let start = c .before .before .before in
+    let is = c .before .k6 .given .1 in
+    (named start is, rw is at (start .pre .1 .1 .1))
 
 leave-requires-2 : tie.Need-leave-requires-2
-leave-requires-2 c κs = named (c .before .before .before) (c .before .k7 .given .1)
+leave-requires-2 c κs =
+    let start = c .before .before .before in
+    let is = c .before .k7 .given .1 in
+    (named start is, rw is at (start .pre .1 .1 .1))
 
 returns : tie.Need-returns
 returns c =

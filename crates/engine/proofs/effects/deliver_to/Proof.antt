@@ -5,11 +5,7 @@ use Rattle.engine.proofs.effects.deliver_to.Tie as tie
 
 returns : tie.Need-returns
 unfolding deliveredAs
-returns c = rw (c .before .if1 .taken, c .start .ensures, c .before .before .deliver .ensures)
-
-returns-2 : tie.Need-returns-2
-unfolding deliveredAs
-returns-2 c = rw (c .if1 .left, c .before .deliver .ensures)
+returns c = rw (c .start .ensures, c .before .deliver .ensures)
 
 pub deliver-to-spec : {M : Type 1} → statement M
-deliver-to-spec = tie.close (tie.spec (λ c κs. search needs) (λ c κs. search needs) returns returns-2)
+deliver-to-spec = tie.close (tie.spec (λ c κs. search needs) (λ c κs. search needs) returns)

@@ -1,44 +1,56 @@
-use mathlib.Core.Path.{_≡_, sym, ap, _∙_}
-use mathlib.Core.Logic.{⊎-elim}
-use Prim.Native.Nat.{_≤_, _-_}
+use Prim.Native.Nat.{_<_}
+use native.Mathlib.Omega.{arith}
 use borrow.Author.Needs.{needs}
-use Rattle.sets.specs.Below.{changed}
-use Rattle.sets.proofs.Below.{change-start, change-end}
+use Rattle.sets.proofs.Arrays.{length-mapped}
+use Rattle.sets.proofs.Masks.{Least, least}
 use Rattle.pools.specs.Pools.{withdrawnFrom}
 use Rattle.configs.specs.Subjects.{noOne, withPool, eachSubject}
-use Rattle.configs.specs.declared.Config.{Config}
 use Rattle.engine.specs.Effects.{withdrawing, leaving}
-use Rattle.sets.proofs.Arrays.{length-mapped}
-use Rattle.sets.proofs.Below.{changed-turn}
-use Rattle.engine.proofs.StillLaws.{changed-still, withdrawn-still}
+use Rattle.engine.proofs.Machine.{machine-held}
+use Rattle.engine.proofs.StillLaws.{Left, left-all, left-turn, left-none, withdrawn-in}
 use Rattle.engine.proofs.effects.leave.Statement.{statement}
 use Rattle.engine.proofs.effects.leave.Tie as tie
 
 abbrev Inv-loop : tie.InvT-loop
-Inv-loop t end s d₀ r₀ d r = (r ≤ 16) × (d .subjects ≡ changed (λ _ x. withPool (withdrawnFrom s (x .pool)) x) noOne (d₀ .subjects) 16 r)
+Inv-loop t end s d₀ left₀ d left = Left (λ _ x. withPool (withdrawnFrom s (x .pool)) x) noOne 16 (d₀ .subjects) left₀ (d .subjects) left
 
 abbrev μ-loop : tie.MeasureT-loop
-μ-loop t end s d₀ r₀ d r = 16 - r
+μ-loop t end s d₀ left₀ d left = left
 
 loop-holds : tie.Need-loop-holds Inv-loop μ-loop
-loop-holds c = (search needs, sym (change-start _ _ _ _ (search length-mapped)))
+loop-holds c = left-all _ _ _ _ _ (machine-held (c .args .c) _ (c .good .1 .1 .0) .masks (c .args .s) (c .pre .0)) (search length-mapped)
+
+-- the one whose turn it is
+lowest : (c : tie.After-part Inv-loop μ-loop) → Least 16 (c .before .before .loop .left)
+lowest c = least 16 _ (omega (arith, c .before .loop-test .taken)) (c .before .before .loop .inv .small)
+
+below : (c : tie.After-part Inv-loop μ-loop) → c .part .result .first < 16
+below c = rw (c .part .ensures) (lowest c .below)
+
+element-copy-out-withdraw-at : tie.Need-element-copy-out-withdraw-at Inv-loop μ-loop
+element-copy-out-withdraw-at c = below (c .before)
+
+element-set-from-d : tie.Need-element-set-from-d Inv-loop μ-loop
+element-set-from-d c = below (c .before .before .before)
+
+loop-less : tie.Need-loop-less Inv-loop μ-loop
+loop-less c =
+    let p = c .before .before .before in
+    rw (p .part .ensures) (lowest p .less)
 
 loop-again : tie.Need-loop-again Inv-loop μ-loop
 loop-again c =
-    let at = c .before in
-    let inv = at .before .loop .inv in (
-      search needs,
-      ⊎-elim
-          (λ w. ap (λ (d : Config). d .subjects) (w .3) ∙ changed-turn _ _ _ _ _ _ _ noOne (at .loop-test .taken) (inv .1) (w .2 .ensures))
-          (λ w. ap (λ (d : Config). d .subjects) (w .1) ∙ changed-still _ _ _ _ _ _ noOne (at .loop-test .taken) (inv .1) (withdrawn-still _ _ (w .0 .left)))
-          (c .if1 .came),
-    )
+    let p = c .before .before .before in
+    left-turn _ _ _ _ _ _ _ _ _ (p .before .before .loop .inv) (lowest p) (p .part .ensures) (c .withdraw-at .ensures)
 
 returns : tie.Need-returns Inv-loop μ-loop
 unfolding leaving withdrawing eachSubject
 returns c =
-    let inv = c .before .before .loop .inv in
-    rw (c .enter-at .ensures, inv .1 ∙ change-end _ _ _ _ _ (inv .0) (c .before .loop-test .left))
+    let l = c .before .before in
+    let start = l .before in
+    let is =
+    left-none _ _ _ _ _ _ _ (λ _ x. withPool (withdrawnFrom (start .args .s) (x .pool)) x) (l .loop .inv) (c .before .loop-test .left) (λ k b. withdrawn-in _ _ _ (start .pre .1 k b)) in
+    rw (c .enter-at .ensures, is)
 
 pub leave-spec : {M : Type 1} → statement M
 leave-spec =
@@ -46,16 +58,17 @@ leave-spec =
     (tie.spec
     Inv-loop
     μ-loop
+    (λ c. search needs)
+    (λ c. search needs)
     loop-holds
-    (λ c. search needs)
-    (λ c. search needs)
-    (λ c. search needs)
-    (λ c. search needs)
     (λ c κs. search needs)
     (λ c. search needs)
     (λ c. search needs)
+    element-copy-out-withdraw-at
+    (λ c κs. search needs)
     (λ c. search needs)
-    (λ c. search needs)
+    element-set-from-d
+    loop-less
     loop-again
     (λ c κs. search needs)
     returns)

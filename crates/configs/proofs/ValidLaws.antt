@@ -90,11 +90,13 @@ held-each f c k =
 
 -- ---- tests that are implications
 
-if-true : (a b : Bool) → (not a || b) ≡ true → a ≡ true → b ≡ true
+-- what is implied by what holds, holds
+pub if-true : (a b : Bool) → (not a || b) ≡ true → a ≡ true → b ≡ true
 if-true true b h e = h
 if-true false b h e = not-both e refl
 
-true-if : (a b : Bool) → (a ≡ true → b ≡ true) → (not a || b) ≡ true
+-- an implication holds where the one follows from the other
+pub true-if : (a b : Bool) → (a ≡ true → b ≡ true) → (not a || b) ≡ true
 true-if true b f = f refl
 true-if false b f = refl
 

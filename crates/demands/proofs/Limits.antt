@@ -36,7 +36,7 @@ use Rattle.configs.specs.declared.Subject as config-subject
 use Rattle.configs.proofs.Good.{GoodSubject, GoodConfig}
 use Rattle.configs.proofs.IndexFacts.{few-rows}
 use Rattle.configs.proofs.ModelFacts.{subject-there}
-use Rattle.configs.proofs.ValidLaws.{config-good}
+use Rattle.configs.proofs.ValidLaws.{config-good, if-true, true-if}
 use Rattle.engine.specs.Reserve.{isClosed, replyOf, rounds, reserving}
 use Rattle.engine.specs.Rules.{noSubject, notRunning, wrongKind, noExit, noMessage, notPlaced, improperReceiver, noTarget, tooEarly, sendFirst, guarded}
 use Rattle.engine.specs.Steps.{effect, acts, acted, stepped}
@@ -48,7 +48,7 @@ use Rattle.engine_promises.proofs.Places.{answer-is, placed-only, placed-all}
 use Rattle.engine_promises.proofs.Steps.{reserve-answered, reserve-places}
 use Rattle.demands.specs.Shares.{RowFor, holds, limitOf, atLast, WithinLimits, Asks, MayHave, placedIn, Gets, GetsNone, GetsExactly}
 use Rattle.demands.proofs.Counting.{fewer}
-use Rattle.demands.proofs.YesNo.{if-so, so-if, row-of, has-row, sends-of, yes-valid, yes-there, yes-shared, limit-is-the-rows}
+use Rattle.demands.proofs.YesNo.{row-of, has-row, sends-of, yes-valid, yes-there, yes-shared, limit-is-the-rows}
 use Rattle.demands.proofs.Along.{last-held, last-valid, step-acts}
 use Rattle.demands.proofs.Senders.{countOf, fromSender, FromSenders, here-sends, only-senders}
 
@@ -72,7 +72,7 @@ module _ (m : Model) (owner : ℕ) (shares : isYes (shareOf m owner) ≡ true) w
   of-row f h k l =
       let few = few-rows m owner (yes-valid m owner shares) (yes-there m owner shares) in
       let all = all-each (λ k. not (ltb k (subjectAt m owner .rows)) || f k) mostRows h k (omega (arith, l, few)) in
-      if-so (ltb k (subjectAt m owner .rows)) (f k) all (lt-ltb k (subjectAt m owner .rows) l)
+      if-true (ltb k (subjectAt m owner .rows)) (f k) all (lt-ltb k (subjectAt m owner .rows) l)
 
   -- an entry matches the row of s exactly when it is from s
   row-matches : (s : ℕ) (r : RowFor (subjectAt m owner) s) (e : Entry)
@@ -162,13 +162,13 @@ module _ (m : Model) (owner : ℕ) (shares : isYes (shareOf m owner) ≡ true) w
           let own = subjectAt m owner in
           and-true
           (lt-ltb (length es) mostEntries free)
-          (all-by (λ k. not (ltb k (own .rows)) || rowHasRoom s typ es (rowAt own k)) mostRows (λ k _. so-if (ltb k (own .rows)) (rowHasRoom s typ es (rowAt own k)) (λ t. each k (ltb-true k (own .rows) t))))
+          (all-by (λ k. not (ltb k (own .rows)) || rowHasRoom s typ es (rowAt own k)) mostRows (λ k _. true-if (ltb k (own .rows)) (rowHasRoom s typ es (rowAt own k)) (λ t. each k (ltb-true k (own .rows) t))))
         where
           each : (k : ℕ) → k < subjectAt m owner .rows → rowHasRoom s typ es (rowAt (subjectAt m owner) k) ≡ true
           each k g =
               let w = rowAt (subjectAt m owner) k in
               row-room k g
-              ∙ so-if (eqb (w .sender) s) (ltb (rowCount w es) (w .limit)) (λ e.
+              ∙ true-if (eqb (w .sender) s) (ltb (rowCount w es) (w .limit)) (λ e.
               let r : RowFor (subjectAt m owner) s = record { row = k; there = g; sender = eqb-true (w .sender) s e } in
               lt-ltb (rowCount w es) (w .limit) (omega (arith, l, row-counts s r, limit-of s r)))
 
@@ -180,7 +180,7 @@ module _ (m : Model) (owner : ℕ) (shares : isYes (shareOf m owner) ≡ true) w
           let w = rowAt own (r .row) in
           let each = and-both (ltb (length es) mostEntries) _ h .right in
           let one = of-row (λ k. rowHasRoom s typ es (rowAt own k)) each (r .row) (r .there) in
-          let room = if-so (eqb (w .sender) s) (ltb (rowCount w es) (w .limit)) (sym (row-room (r .row) (r .there)) ∙ one) (eq-eqb (w .sender) s (r .sender)) in
+          let room = if-true (eqb (w .sender) s) (ltb (rowCount w es) (w .limit)) (sym (row-room (r .row) (r .there)) ∙ one) (eq-eqb (w .sender) s (r .sender)) in
           omega (arith, ltb-true (rowCount w es) (w .limit) room, row-counts s r, limit-of s r)
 
     -- there is room for a sender that has a row exactly when its own entries are below its limit

@@ -15,7 +15,6 @@ use Rattle.sets.proofs.Tests.{choose}
 use Rattle.model.specs.Rules.{any}
 use Rattle.model.specs.Sizes.{mostSubjects}
 use Rattle.model.specs.declared.Model.{Model}
-use Rattle.model.specs.declared.State.{State}
 use Rattle.pools.specs.Entries.{reservation, reservedBy, delivered}
 use Rattle.pools.specs.Pools.{held}
 use Rattle.pools.specs.declared.Entry.{Entry}
@@ -28,12 +27,13 @@ use Rattle.configs.specs.declared.Subject.{Subject}
 use Rattle.configs.proofs.ModelFacts.{subject-there}
 use Rattle.configs.proofs.ValidLaws.{at-put-same, at-put-other, at-each, each-put}
 use Rattle.engine.specs.Commands.{names, subjectOf}
-use Rattle.engine.specs.Effects.{wantedAt, doing, takingAt, taking, withMarks, marking, runningOn, ticked, ticking}
+use Rattle.engine.specs.Effects.{wantedAt, doing, takingAt, taking, runningOn, ticked, ticking}
 use Rattle.engine.specs.Reserve.{rounds, reserving}
 use Rattle.engine.specs.Rules.{wrongKind}
 use Rattle.engine.specs.Steps.{effect, endsAt, stepped}
 use Rattle.engine.specs.declared.Command.{Command}
 use Rattle.engine.specs.declared.Command.the-variants.{Do, Reserve, Deliver, Take, Run, Expire, Cancel, Tick}
+use Rattle.engine.proofs.KeptOne.{pool-marking}
 use Rattle.engine_promises.proofs.Places.{placed-only, pool-placed, pool-other}
 use Rattle.engine_promises.proofs.Pools.{held-delivering, leaving-withdraws}
 use Rattle.engine_promises.proofs.Refusals.{effectOf, Accepted, accepted-tells}
@@ -44,11 +44,6 @@ pub record Moved (m : Model) (c : Config) (s r : ℕ) (P : List Entry → Type 0
   pub sent : (word : ℕ) → P (map (delivered s word) (held (at c r .pool)))
   pub taken : r ≡ s → (i : ℕ) → P (without i (held (at c r .pool)))
   pub withdrawn : P (passing (λ e. not (reservedBy s any e)) (held (at c r .pool)))
-
--- marks leave the pool
-marking-pool : (n : ℕ) (here : State) (x : Subject) → marking n here x .pool ≡ x .pool
-unfolding marking withMarks
-marking-pool n here x = choose (λ (y : Subject). y .pool ≡ x .pool) (eqb (here .kind) 6) (λ _. refl) (λ _. refl)
 
 -- so does a tick
 ticked-pool : (x : Subject) → ticked x .pool ≡ x .pool
@@ -96,7 +91,7 @@ module _ (m : Model) (c : Config) (h : Held c) (r : ℕ) (l : r < mostSubjects) 
   pool-moved (Take s e) fine same p =
       taking-moves s e (endsAt m c (Take s e)) (wantedAt (hereOf m c s) e (at c s)) (in-array (Take s e) (accepted-tells m c (Take s e) fine refl)) same (p refl)
   pool-moved (Run s) fine same p =
-      put-same s _ (in-array (Run s) (accepted-tells m c (Run s) fine refl)) (marking-pool (m .n) (hereOf m c s) (at c s)) same
+      put-same s _ (in-array (Run s) (accepted-tells m c (Run s) fine refl)) (pool-marking (m .n) (hereOf m c s) (at c s)) same
   pool-moved (Expire s) fine same p = rw (leaving-withdraws (hereOf m c s .timeout) (endsAt m c (Expire s)) c s r l) (p refl .withdrawn)
   pool-moved (Cancel s) fine same p = rw (leaving-withdraws (hereOf m c s .cancel) (endsAt m c (Cancel s)) c s r l) (p refl .withdrawn)
   pool-moved Tick fine same p = rw (at-each (λ _ x. ticked x) c r l, ticked-pool (at c r)) same

@@ -17,20 +17,9 @@ use Rattle.configs.specs.Answers.{isYes}
 use Rattle.configs.specs.Shares.{rowNames, rowsName, noneTwice, hasRow, sendsTo, canSend, sendersHaveRows, limitsFit, sharedOut, shareOf}
 use Rattle.configs.specs.Subjects.{isSend, stateOf}
 use Rattle.configs.specs.declared.Share.the-variants.{Yes, No, NotAsked}
+use Rattle.configs.proofs.ValidLaws.{if-true, true-if}
 use Rattle.demands.specs.Shares.{SendsTo, RowFor, SharedOut, YesSays, limitOf, LimitIsTheRows}
 use Rattle.demands.proofs.Counting.{sum-one, two-names}
-
--- ---- tests that are implications
-
--- what is implied by what holds, holds
-pub if-so : (a b : Bool) → (not a || b) ≡ true → a ≡ true → b ≡ true
-if-so true b h e = h
-if-so false b h e = not-both e refl
-
--- an implication holds where the one follows from the other
-pub so-if : (a b : Bool) → (a ≡ true → b ≡ true) → (not a || b) ≡ true
-so-if true b f = f refl
-so-if false b f = refl
 
 -- ---- rows and senders, as tests and as records
 
@@ -88,7 +77,7 @@ module _ (m : Model) (owner : ℕ) where
             (rowAt own k .sender)
             (not-true _ (all-each (λ j. not (eqb (rowAt own j .sender) (rowAt own k .sender))) k (all-each (λ k. allBelow (λ j. not (eqb (rowAt own j .sender) (rowAt own k .sender))) k) (own .rows) (d .right) k g) j l));
         rowForEach = λ s l t.
-            row-of own s (if-so (canSend m owner s) (hasRow own s) (all-each (λ s. not (canSend m owner s) || hasRow own s) (m .n) (a .right) s l) (can-send m owner s t));
+            row-of own s (if-true (canSend m owner s) (hasRow own s) (all-each (λ s. not (canSend m owner s) || hasRow own s) (m .n) (a .right) s l) (can-send m owner s t));
         limitsFit = leb-true (sumBelow (λ k. rowAt own k .limit) (own .rows)) mostEntries (b .right);
       }
 
@@ -109,7 +98,7 @@ module _ (m : Model) (owner : ℕ) where
       (all-by
       (λ s. not (canSend m owner s) || hasRow own s)
       (m .n)
-      (λ s l. so-if (canSend m owner s) (hasRow own s) (λ e. has-row own s (h .rowForEach s l (sends-of m owner s e)))))
+      (λ s l. true-if (canSend m owner s) (hasRow own s) (λ e. has-row own s (h .rowForEach s l (sends-of m owner s e)))))
 
   -- yes is answered only for a pool that is shared out
   yes-read : isYes (shareOf m owner) ≡ true → (valid m ≡ true) × (owner < m .n) × SharedOut m owner

@@ -140,7 +140,7 @@ module _ (n : ℕ) (here : State) (x : Subject) where
   unfolding marking withMarks
   mode-marking = choose (λ (y : Subject). y .mode ≡ x .mode) (eqb (here .kind) 6) (λ _. refl) (λ _. refl)
 
-  pool-marking : marking n here x .pool ≡ x .pool
+  pub pool-marking : marking n here x .pool ≡ x .pool
   unfolding marking withMarks
   pool-marking = choose (λ (y : Subject). y .pool ≡ x .pool) (eqb (here .kind) 6) (λ _. refl) (λ _. refl)
 

@@ -23,7 +23,7 @@ use Rattle.engine.specs.Effects.{wantedAt}
 use Rattle.engine.specs.Exact.{holdsAt, numberAt, FirstRule, NoRule}
 use Rattle.engine.specs.Reserve.{answered, reserving}
 use Rattle.engine.specs.Rules.{noSubject, notRunning, wrongKind, noExit, isNothing, noMessage, missesPlace, placeMissing, someImproper, notPlaced, improperReceiver, noTarget, tooEarly, canDeliver, sendFirst, kindRules, rules, firstNumber, guarded}
-use Rattle.engine.specs.Steps.{effect, acts, turnRules, turned}
+use Rattle.engine.specs.Steps.{effect, acts, turnRules}
 use Rattle.engine.specs.declared.Command.{Command}
 use Rattle.engine.specs.declared.Command.the-variants.{Do, Reserve, Deliver, Take, Run, Expire, Cancel, Tick}
 
@@ -236,6 +236,11 @@ effect-accepted n subjects here end c (Run s) = refl
 effect-accepted n subjects here end c (Expire s) = refl
 effect-accepted n subjects here end c (Cancel s) = refl
 effect-accepted n subjects here end c Tick = refl
+
+-- a step by the fault that was found, and by what is read of the model
+unfoldable pub turned : ℕ → ℕ → ℕ → List model-subject.Subject → State → Bool → Config → Command → Stepped
+turned fault code n subjects here end c k =
+    guarded c ((eqb fault 8, 8) ∷ (not (isCode code), 9) ∷ (eqb fault 10, 10) ∷ []) (acts n subjects here end c k)
 
 -- a step by the fault that was found is told by its number: 8, 9, 10, then 11 to 20
 pub turned-number :

@@ -224,10 +224,10 @@ pub(crate) fn leave(t: u8, end: bool, c: Config, s: u8) -> Config
     let mut d = c;
     let mut left = d.subjects[s as usize].mask;
     while left != 0 {
-        let p = sets::part(left);
-        let r = p.first as usize;
+        let turn = sets::part(left);
+        let r = turn.first as usize;
         d.subjects[r] = withdraw_at(s, d.subjects[r]);
-        left = p.rest;
+        left = turn.rest;
     }
     enter_at(d, s, t, end)
 }

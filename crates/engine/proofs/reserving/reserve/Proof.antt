@@ -4,9 +4,9 @@ use native.Mathlib.Omega.{arith}
 use lib.Bits.{and-le-l}
 use borrow.Author.Needs.{needs}
 use Rattle.sets.proofs.Masks.{Least, least}
-use Rattle.configs.specs.Subjects.{noOne, at}
-use Rattle.sets.proofs.Arrays.{each-holds}
+use Rattle.configs.specs.Subjects.{at}
 use Rattle.engine.proofs.ReserveLaws.{turns, turn-first, turns-end, turns-all, reserving-is}
+use Rattle.engine.proofs.Machine.{machine-held}
 use Rattle.engine.proofs.reserving.reserve.Statement.{statement}
 use Rattle.engine.proofs.reserving.reserve.Tie as tie
 
@@ -19,8 +19,7 @@ abbrev μ-loop : tie.MeasureT-loop
 
 -- every subject's mask has 16 bits, the sender's too
 mask-fits : (c : tie.Start Inv-loop μ-loop) → at (c .args .c) (c .args .s) .mask < 2 ^ 16
-mask-fits c =
-    each-holds (λ x. x .mask < 2 ^ 16) _ _ noOne (omega arith) (λ x u p. omega (arith, p .1 .1 .1 .1 .1 .1 .0 .1)) (c .args .c .subjects) _ (c .good .1 .1 .0 .1 .1 .0 .1 .1) (c .args .s)
+mask-fits c = machine-held (c .args .c) _ (c .good .1 .1 .0) .masks (c .args .s) (c .pre)
 
 loop-holds : tie.Need-loop-holds Inv-loop μ-loop
 loop-holds c =

@@ -74,7 +74,7 @@ pub fn main(given: &[String]) -> Outcome {
 
 /// All rows of the table; each run times everything once.
 fn measure(engine: &dyn Engine, runs: u64) -> (Vec<f64>, Vec<Row>) {
-    let all = [small(), large()];
+    let all = [small(), middle(), large()];
     let mut rows: Vec<Row> = Vec::new();
     let mut copies = Vec::new();
     for run in 0..runs {
@@ -207,6 +207,39 @@ fn small() -> Course {
     let model = parse_model(SMALL).map_or_else(|e| panic!("{e}"), |named| named.model);
     let start = fresh(&model).1;
     course("small", model, start, &[0])
+}
+
+/// Four subjects of ten states: two schedulers, each with its valve.
+fn middle() -> Course {
+    let text = scheduler("1") + &valve("1") + &scheduler("2") + &valve("2");
+    let model = parse_model(&text).map_or_else(|e| panic!("{e}"), |named| named.model);
+    let start = fresh(&model).1;
+    course("middle", model, start, &[0, 2])
+}
+
+/// A scheduler that measures, reports and looks three times, and rests.
+fn scheduler(name: &str) -> String {
+    let mut text = format!("subject scheduler{name} starts\n");
+    for (i, next) in [(1, "measure2"), (2, "measure3"), (3, "rest")] {
+        text += &format!(
+            "  state measure{i} internal\n    -> measure{i}\n    -> report{i}\n\
+             \x20 state report{i} send reading to valve{name}\n    -> look{i}\n    cancel -> measure{i}\n\
+             \x20 state look{i} ask-empty any from any\n    empty -> {next}\n    not-empty -> {next}\n"
+        );
+    }
+    text + "  state rest internal\n    -> measure1\n"
+}
+
+/// A valve that waits and acts five times.
+fn valve(name: &str) -> String {
+    let mut text = format!("subject valve{name} starts\n  limit any from scheduler{name} 1\n");
+    for (i, next) in [(1, 2), (2, 3), (3, 4), (4, 5), (5, 1)] {
+        text += &format!(
+            "  state wait{i} receive\n    reading from scheduler{name} -> act{i}\n    timeout 3 -> act{i}\n\
+             \x20 state act{i} internal\n    -> wait{next}\n"
+        );
+    }
+    text
 }
 
 /// Sixteen subjects of thirty states whose pools are full but for one place.
@@ -433,7 +466,7 @@ mod tests {
 
     #[test]
     fn models_and_starts_are_valid_and_every_command_is_accepted() {
-        for s in [small(), large()] {
+        for s in [small(), middle(), large()] {
             let model = load(&s.file).unwrap();
             assert!(config_valid(&model, &s.start), "{}", s.name);
             for (name, tape) in &s.tapes {
@@ -447,7 +480,7 @@ mod tests {
                 assert!(*name != "mix" || counts.iter().all(|c| *c > 1_000));
                 let pools: usize = config.subjects.iter().map(|a| a.pool.used().len()).sum();
                 println!("entries at the end {pools}");
-                assert!(s.name == "small" || pools >= 170, "{name}: {pools}");
+                assert!(s.name != "large" || pools >= 170, "{name}: {pools}");
             }
         }
     }

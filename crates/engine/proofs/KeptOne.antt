@@ -353,7 +353,7 @@ module _ (m : Model) (v : valid m ≡ true) (c : Config) (k : Held c) (g : GoodC
 
 -- ---- Tick
 
-ticked-cases : (P : Subject → Type 0) (x : Subject) → (x .mode ≡ running → (w : ℕ) → P (withWaited w x)) → P x → P (ticked x)
+pub ticked-cases : (P : Subject → Type 0) (x : Subject) → (x .mode ≡ running → (w : ℕ) → P (withWaited w x)) → P x → P (ticked x)
 unfolding ticked
 ticked-cases P x f h = choose P (eqb (x .mode) running) (λ e. f (eqb-true (x .mode) running e) (min (x .waited + 1) 65535)) (λ _. h)
 

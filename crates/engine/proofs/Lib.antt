@@ -11,5 +11,8 @@ pub mod Kept
 pub mod StepLaws
 pub mod Machine
 pub mod OwnLaws
+pub mod GrownLaws
+pub mod PlaceLaws
+pub mod StoreLaws
 pub mod TurnLaws
 pub mod TapeLaws

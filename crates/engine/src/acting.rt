@@ -5,7 +5,7 @@ ghost use Rattle.model.specs.Sizes.{mostSubjects};
 ghost use Rattle.configs.specs.Answers.{done};
 ghost use Rattle.configs.specs.Subjects.{at};
 ghost use Rattle.engine.specs.Commands.{subjectOf};
-ghost use Rattle.engine.specs.Effects.{PlacedAmong};
+ghost use Rattle.engine.specs.InPlace.{PlacedAmong};
 ghost use Rattle.engine.specs.Steps.{effect};
 use super::Command;
 use super::effects;

@@ -6,9 +6,11 @@ ghost use Rattle.model.specs.Sizes.{mostSubjects};
 ghost use Rattle.model.specs.Valid.{exitAt};
 ghost use Rattle.pools.specs.Pools.{withdrawnFrom};
 ghost use Rattle.configs.specs.Subjects.{at, put, withPool};
-ghost use Rattle.engine.specs.Effects.{targetOf, enters, isOwn, doneAs, wantedAt, tookAs, ranAs, ownAs, started, deliveredAs, delivering, PlacedAmong, leaving, ticking};
+ghost use Rattle.engine.specs.Effects.{targetOf, enters, wantedAt, ranAs, started, deliveredAs, delivering, leaving, ticking};
+ghost use Rattle.engine.specs.InPlace.{PlacedAmong, tookAs, ownAs, handles, waiters, reached, touchedAs, arrivedAs};
 use super::Command;
 use super::marks;
+use super::reserving;
 use configs::Config;
 use configs::Subject;
 use model::Exit;
@@ -64,16 +66,16 @@ fn enter_at(c: Config, s: u8, t: u8, end: bool) -> Config
     d
 }
 
-// Whether a command changes its own subject alone.
-pub(crate) fn is_own(k: Command) -> bool
-    ensures { λ r. ⌜ r ≡ isOwn k ⌝ }
+// Whether a command changes the own pool or its marks.
+pub(crate) fn handles(k: Command) -> bool
+    ensures { λ r. ⌜ r ≡ handles k ⌝ }
 {
     match k {
         Command::Do {
             subject: _,
             exit: _,
             word: _,
-        } => true,
+        } => false,
         Command::Reserve { subject: _ } => false,
         Command::Deliver { subject: _ } => false,
         Command::Take {
@@ -87,13 +89,34 @@ pub(crate) fn is_own(k: Command) -> bool
     }
 }
 
-// Do: the word is set, the exit's target entered.
-fn do_own(here: State, end: bool, me: Subject, e: u8, word: u32) -> Subject
-    ensures { λ r. ⌜ r ≡ doneAs here end e word me ⌝ }
+// The numbers of the subject after a command: it comes to a state, with Do's word; at Reserve its mask has grown. Pool and marks stay.
+pub(crate) fn arrive(t: u8, end: bool, mask: u16, me: Subject, k: Command) -> Subject
+    ensures { λ r. ⌜ r ≡ arrivedAs t end mask me k ⌝ }
 {
     let mut x = me;
-    x.word = word;
-    x.enter(exit_of(here, e).target, end)
+    match k {
+        Command::Do {
+            subject: _,
+            exit: _,
+            word,
+        } => {
+            x.word = word;
+            x.enter(t, end)
+        }
+        Command::Reserve { subject: _ } => {
+            x.mask = mask;
+            x
+        }
+        Command::Deliver { subject: _ } => x.enter(t, end),
+        Command::Take {
+            subject: _,
+            exit: _,
+        } => x.enter(t, end),
+        Command::Run { subject: _ } => x.enter(t, end),
+        Command::Expire { subject: _ } => x.enter(t, end),
+        Command::Cancel { subject: _ } => x.enter(t, end),
+        Command::Tick => x,
+    }
 }
 
 // Take: the earliest message that matches is removed, its content becomes the word, the target is entered.
@@ -132,8 +155,8 @@ pub(crate) fn own(n: u8, here: State, end: bool, me: Subject, k: Command) -> Sub
         Command::Do {
             subject: _,
             exit,
-            word,
-        } => do_own(here, end, me, exit, word),
+            word: _,
+        } => arrive(exit_of(here, exit).target, end, 0, me, k),
         Command::Reserve { subject: _ } => me,
         Command::Deliver { subject: _ } => me,
         Command::Take { subject: _, exit } => take_own(here, end, me, exit),
@@ -246,7 +269,7 @@ fn bound(n: u8) -> usize
 }
 
 // One tick more, up to 65,535.
-fn one_more(waited: u16) -> u16
+pub(crate) fn one_more(waited: u16) -> u16
     ensures { λ r. ⌜ r ≡ min (waited + 1) 65535 ⌝ }
 {
     if waited == 65535 {
@@ -271,4 +294,87 @@ pub(crate) fn tick(n: u8, c: Config) -> Config
         r += 1;
     }
     d
+}
+
+// How many subjects, from the first on, a command has wait one more: at a tick that is accepted the n that there are.
+pub(crate) fn waiters(number: u8, n: u8, k: Command) -> usize
+    ensures { λ r. ⌜ r ≡ waiters number n k ⌝ }
+{
+    if number != 0 {
+        return 0;
+    }
+    match k {
+        Command::Do {
+            subject: _,
+            exit: _,
+            word: _,
+        } => 0,
+        Command::Reserve { subject: _ } => 0,
+        Command::Deliver { subject: _ } => 0,
+        Command::Take {
+            subject: _,
+            exit: _,
+        } => 0,
+        Command::Run { subject: _ } => 0,
+        Command::Expire { subject: _ } => 0,
+        Command::Cancel { subject: _ } => 0,
+        Command::Tick => n as usize,
+    }
+}
+
+// The subjects that an accepted command reaches: those asked for a place, those delivered to, those withdrawn from.
+pub(crate) fn reached(number: u8, here: State, mask: u16, k: Command) -> u16
+    ensures { λ r. ⌜ r ≡ reached number here mask k ⌝ }
+{
+    if number != 0 {
+        return 0;
+    }
+    match k {
+        Command::Do {
+            subject: _,
+            exit: _,
+            word: _,
+        } => 0,
+        Command::Reserve { subject: _ } => here.receivers & !mask,
+        Command::Deliver { subject: _ } => here.receivers,
+        Command::Take {
+            subject: _,
+            exit: _,
+        } => 0,
+        Command::Run { subject: _ } => 0,
+        Command::Expire { subject: _ } => mask,
+        Command::Cancel { subject: _ } => mask,
+        Command::Tick => 0,
+    }
+}
+
+// A subject that a command of s reaches, s having the word: it answers, gets a message, or is withdrawn from.
+pub(crate) fn touch(
+    owner: model::Subject,
+    here: State,
+    s: u8,
+    word: u32,
+    x: Subject,
+    k: Command,
+) -> Subject
+    requires { ⌜ s < mostSubjects ⌝ }
+    ensures { λ r. ⌜ r ≡ touchedAs owner here s word x k ⌝ }
+{
+    match k {
+        Command::Do {
+            subject: _,
+            exit: _,
+            word: _,
+        } => x,
+        Command::Reserve { subject: _ } => reserving::serve(owner, here, s, x),
+        Command::Deliver { subject: _ } => deliver_to(owner.initial, s, word, x),
+        Command::Take {
+            subject: _,
+            exit: _,
+        } => x,
+        Command::Run { subject: _ } => x,
+        Command::Expire { subject: _ } => withdraw_at(s, x),
+        Command::Cancel { subject: _ } => withdraw_at(s, x),
+        Command::Tick => x,
+    }
 }

@@ -1,7 +1,10 @@
 // Reserve: each receiver that has no place yet answers, from the lowest number.
 ghost use mathlib.Core.Path.{_≡_};
+ghost use mathlib.Core.Bool.{cond};
 ghost use Prim.Native.Nat.{_<_};
 ghost use Rattle.model.specs.Sizes.{mostSubjects};
+ghost use Rattle.sets.specs.Masks.{withBit};
+ghost use Rattle.engine.specs.InPlace.{servedAs};
 ghost use Rattle.engine.specs.Reserve.{isClosed, replyOf, withPlace, noted, reserving};
 use super::Places;
 use super::Reply;
@@ -65,6 +68,26 @@ fn with_place(reply: Reply, sender: u8, typ: u8, x: Subject) -> Subject
         Reply::Closed => x,
         Reply::Full => x,
     }
+}
+
+// One receiver as s asks for a place.
+pub(crate) fn serve(owner: model::Subject, here: State, s: u8, x: Subject) -> Subject
+    requires { ⌜ s < mostSubjects ⌝ }
+    ensures { λ r. ⌜ r ≡ servedAs owner here s x ⌝ }
+{
+    let typ = effects::exit_of(here, 0).typ;
+    with_place(reply_of(owner, x, s, typ), s, typ, x)
+}
+
+// The mask with r, where it has given a place.
+pub(crate) fn grown(mask: u16, r: u8, placed: bool) -> u16
+    requires { ⌜ r < mostSubjects ⌝ }
+    ensures { λ q. ⌜ q ≡ cond placed (withBit mask r) mask ⌝ }
+{
+    if placed {
+        return sets::with(mask, r);
+    }
+    mask
 }
 
 // The receiver is noted in the mask of its answer.

@@ -1,12 +1,12 @@
 -- Laws of pools: the struct and the list of its entries, the loops over it, and what the steps do to it in terms of the list.
 use mathlib.Core.Path.{_≡_, refl, sym, ap, _∙_}
-use mathlib.Core.Bool.{Bool, true, false, _&&_, not, cond}
+use mathlib.Core.Bool.{Bool, true, false, _&&_, _||_, not, cond}
 use mathlib.Core.List.{List, [], _∷_, _++_, map, append-nil}
 use Prim.Native.Nat.{ℕ, _+_, _≤_, _<_}
 use native.Mathlib.Omega.{arith}
-use borrow.Author.Tests.{lt-ltb, le-ltb, le-leb, ltb-true, ltb-false, leb-true, eqb-true, not-true}
+use borrow.Author.Tests.{lt-ltb, le-ltb, le-leb, ne-eqb, ltb-true, ltb-false, leb-true, eqb-true, eqb-false, not-true}
 use lib.Dec.{eqb, ltb, leb}
-use lib.ListN.{length, take, drop, getD, length-append, length-take, length-map, length-replicate}
+use lib.ListN.{length, take, drop, getD, set, length-append, length-take, length-map, length-replicate}
 use lib.Seq.{take-all, length-take-le, getD-take}
 use Rattle.sets.specs.Below.{allBelow}
 use Rattle.sets.specs.Lists.{allOf, passing, counted, firstFrom, without, padded}
@@ -27,6 +27,27 @@ use Rattle.sets.proofs.Lists.{without-short, map-stays, cond-not}
 
 pub pool-is : {a b : Pool} → a .entries ≡ b .entries → a .count ≡ b .count → a ≡ b
 pool-is p q = λ i. record { entries = p i; count = q i }
+
+-- where x tells whether the count n is not 0, x or y tells it of the count with the hit y
+one-more : (x y : Bool) (n : ℕ) → not x ≡ eqb n 0 → not (x || y) ≡ eqb (n + cond y 1 0) 0
+one-more true y n h = sym (ne-eqb (n + cond y 1 0) 0 (λ e. eqb-false n 0 (sym h) (omega arith)))
+one-more false true n h = sym (ne-eqb (n + 1) 0 (λ e. omega arith))
+one-more false false n h =
+    let e : n + 0 ≡ n = omega arith in
+    rw e h
+
+-- those that leave and those that stay
+leave-stay : (f : Entry → Bool) (es : List Entry) → counted f es + length (passing (λ e. not (f e)) es) ≡ length es
+unfolding counted passing
+leave-stay f [] = refl
+leave-stay f (e ∷ es) = go (f e) (leave-stay f es)
+  where
+    rest : List Entry
+    rest = passing (λ x. not (f x)) es
+
+    go : (b : Bool) → counted f es + length rest ≡ length es → cond b 1 0 + counted f es + length (cond (not b) (e ∷ rest) rest) ≡ length (e ∷ es)
+    go true h = omega arith
+    go false h = omega arith
 
 -- ---- the list of a pool, whatever stands in its array
 
@@ -51,6 +72,11 @@ module _ (p : Pool) where
   pub count-turn : (f : Entry → Bool) (i x y : ℕ) → i < length (held p) → x ≡ counted f (take i (held p))
       → y ≡ cond (f (getD (p .entries) i blankEntry)) 1 0 → x + y ≡ counted f (take (i + 1) (held p))
   count-turn f i x y l e g = rw (counted-more f (held p) i blankEntry l, held-at i l, e, g)
+
+  -- a turn of a loop that asks whether there is one
+  pub some-turn : (f : Entry → Bool) (i : ℕ) (x y : Bool) → i < length (held p) → not x ≡ eqb (counted f (take i (held p))) 0
+      → y ≡ f (getD (p .entries) i blankEntry) → not (x || y) ≡ eqb (counted f (take (i + 1) (held p))) 0
+  some-turn f i x y l e g = rw (counted-more f (held p) i blankEntry l, held-at i l, ← g) (one-more x y (counted f (take i (held p))) e)
 
   -- a turn of a loop that searches
   pub search-hit : (f : Entry → Bool) (i : ℕ) → i < length (held p) → f (getD (p .entries) i blankEntry) ≡ true
@@ -77,6 +103,21 @@ append-pooled es e h =
     rw (lt-ltb (length es) mostEntries h)
     (pool-is (padded-set mostEntries blankEntry es e h) (sym (length-append es (e ∷ []))))
 
+pub count-pooled : {q : Pool} (es : List Entry) → q ≡ pooled es → q .count ≡ length es
+unfolding pooled
+count-pooled es e = ap (λ (r : Pool). r .count) e
+
+-- the reservations of s that left and the entries that stayed are all
+pub count-withdrawn : (s : ℕ) (es : List Entry) {q : Pool} → q ≡ pooled (passing (λ e. not (reservedBy s any e)) es)
+    → reservations s any es + q .count ≡ length es
+unfolding reservations
+count-withdrawn s es e = omega (arith, leave-stay (reservedBy s any) es, count-pooled _ e)
+
+-- the entry is stored at the first unused place
+pub store-is : (q : Pool) (i : ℕ) (e : Entry) → q .count ≡ i → i < mostEntries → record { entries = set (q .entries) i e; count = q .count + 1 } ≡ appended q e
+unfolding appended
+store-is q i e h l = rw (h, lt-ltb i mostEntries l)
+
 -- a turn of a loop that builds a pool: one more entry where it is wanted
 pub append-turn : (b : Bool) (q : Pool) (e : Entry) (es fs : List Entry) → length es < mostEntries → q ≡ pooled es
     → fs ≡ es ++ cond b (e ∷ []) [] → cond b (appended q e) q ≡ pooled fs
@@ -100,18 +141,18 @@ module _ (p : Pool) (fits : length (held p) ≤ mostEntries) (q : Pool) (j : ℕ
       e
       (rw (without-more i (held p) j blankEntry l, held-at p j l, cond-not))
 
-  pub passing-turn : (f : Entry → Bool) → q ≡ pooled (passing f (take j (held p)))
-      → cond (f (getD (p .entries) j blankEntry)) (appended q (getD (p .entries) j blankEntry)) q ≡ pooled (passing f (take (j + 1) (held p)))
-  passing-turn f e =
+  pub passing-turn : (f : Entry → Bool) (b : Bool) → b ≡ f (getD (p .entries) j blankEntry) → q ≡ pooled (passing f (take j (held p)))
+      → cond b (appended q (getD (p .entries) j blankEntry)) q ≡ pooled (passing f (take (j + 1) (held p)))
+  passing-turn f b g e =
       append-turn
-      (f (getD (p .entries) j blankEntry))
+      b
       q
       (getD (p .entries) j blankEntry)
       (passing f (take j (held p)))
       (passing f (take (j + 1) (held p)))
       (omega (arith, short, length-passing f (take j (held p)), counted-bound f (take j (held p))))
       e
-      (rw (passing-more f (held p) j blankEntry l, held-at p j l))
+      (rw (passing-more f (held p) j blankEntry l, held-at p j l, ← g))
 
   pub map-turn : (g : Entry → Entry) → q ≡ pooled (map g (take j (held p)))
       → appended q (g (getD (p .entries) j blankEntry)) ≡ pooled (map g (take (j + 1) (held p)))

@@ -1,6 +1,5 @@
 // What the steps do to a pool. Each gives a new pool.
 ghost use mathlib.Core.Path.{_≡_};
-ghost use mathlib.Core.Bool.{cond};
 ghost use mathlib.Core.List.{[]};
 ghost use Rattle.pools.specs.Pools.{pooled, appended, takenAt, deliveredIn, withdrawnFrom};
 use super::Entry;
@@ -39,16 +38,6 @@ pub fn append(p: Pool, e: Entry) -> Pool
     q
 }
 
-// One more entry where it is wanted.
-fn append_if(wanted: bool, p: Pool, e: Entry) -> Pool
-    ensures { λ r. ⌜ r ≡ cond wanted (appended p e) p ⌝ }
-{
-    if wanted {
-        return append(p, e);
-    }
-    p
-}
-
 // The pool without the entry at place i; those behind it move up.
 fn without(p: Pool, i: usize) -> Pool
     ensures { λ r. ⌜ r ≡ takenAt p i .pool ⌝ }
@@ -57,7 +46,12 @@ fn without(p: Pool, i: usize) -> Pool
     let mut q = empty_pool();
     let mut j: usize = 0;
     while j < n {
-        q = append_if(j != i, q, p.entries[j]);
+        let e = p.entries[j];
+        if j != i {
+            let at = q.count as usize;
+            q.entries[at] = e;
+            q.count = q.count + 1;
+        }
         j += 1;
     }
     q
@@ -81,37 +75,45 @@ pub fn take_at(p: Pool, i: usize) -> Taken
     }
 }
 
-// The sender's reservations become messages with the word, each at its own place in the line.
+// The sender's reservations become messages with the word, each at its own place in the line. A pool without one stays.
 pub fn deliver(p: Pool, sender: u8, word: u32) -> Pool
     ensures { λ r. ⌜ r ≡ deliveredIn sender word p ⌝ }
 {
-    if searches::reservations(p, sender, 255) == 0 {
-        return p;
-    }
     let n = searches::used(p);
     let mut q = empty_pool();
+    let mut found = false;
     let mut j: usize = 0;
     while j < n {
-        q = append(q, entries::deliver_entry(p.entries[j], sender, word));
+        let e = p.entries[j];
+        found = sets::either(found, entries::reserved_by(e, sender, 255));
+        q.entries[j] = entries::deliver_entry(e, sender, word);
+        q.count = q.count + 1;
         j += 1;
+    }
+    if !found {
+        return p;
     }
     q
 }
 
-// The sender's reservations leave; the others keep their order.
+// The sender's reservations leave; the others keep their order. A pool without one stays.
 pub fn withdraw(p: Pool, sender: u8) -> Pool
     ensures { λ r. ⌜ r ≡ withdrawnFrom sender p ⌝ }
 {
-    if searches::reservations(p, sender, 255) == 0 {
-        return p;
-    }
     let n = searches::used(p);
     let mut q = empty_pool();
     let mut j: usize = 0;
     while j < n {
         let e = p.entries[j];
-        q = append_if(!entries::reserved_by(e, sender, 255), q, e);
+        if !entries::reserved_by(e, sender, 255) {
+            let at = q.count as usize;
+            q.entries[at] = e;
+            q.count = q.count + 1;
+        }
         j += 1;
+    }
+    if q.count as usize == n {
+        return p;
     }
     q
 }

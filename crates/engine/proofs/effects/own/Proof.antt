@@ -1,11 +1,11 @@
 use borrow.Author.Needs.{needs}
-use Rattle.engine.specs.Effects.{ownAs}
+use Rattle.engine.specs.InPlace.{ownAs, arrivedAs}
 use Rattle.engine.proofs.effects.own.Statement.{statement}
 use Rattle.engine.proofs.effects.own.Tie as tie
 
 returns : tie.Need-returns
-unfolding ownAs
-returns c = rw (c .before .before .k .given .1) (c .do-own .ensures)
+unfolding ownAs arrivedAs
+returns c = rw (c .arrive .ensures, c .before .before .before .k .given .1, c .before .exit-of .ensures)
 
 returns-2 : tie.Need-returns-2
 unfolding ownAs
@@ -40,6 +40,7 @@ own-spec =
     tie.close
     (tie.spec
     (λ c. search needs)
+    (λ c κs. search needs)
     (λ c κs. search needs)
     (λ c. search needs)
     (λ c. search needs)

@@ -1,6 +1,8 @@
-use Prim.Native.Nat.{_≤_, _-_}
-use mathlib.Core.Path.{_≡_, sym, _∙_}
+use Prim.Native.Nat.{_+_, _≤_, _-_}
+use mathlib.Core.Path.{_≡_, refl, sym, ap, _∙_}
 use mathlib.Core.Bool.{not}
+use mathlib.Core.List.{[]}
+use mathlib.Core.Logic.{⊎-elim}
 use native.Mathlib.Omega.{arith}
 use borrow.Author.Tests.{eq-eqb, ne-eqb}
 use borrow.Author.Needs.{needs}
@@ -9,45 +11,69 @@ use lib.Seq.{take-all}
 use Rattle.sets.specs.Lists.{passing}
 use Rattle.model.specs.Rules.{any}
 use Rattle.pools.specs.Entries.{reservedBy}
-use Rattle.pools.specs.Pools.{held, pooled, withdrawnFrom}
+use Rattle.pools.specs.Pools.{held, pooled, reservations, withdrawnFrom}
 use Rattle.sets.proofs.Arrays.{length-mapped}
-use Rattle.pools.proofs.PoolLaws.{held-fits, passing-turn}
+use Rattle.pools.proofs.PoolLaws.{held-fits, count-pooled, count-withdrawn, store-is, passing-turn}
 use Rattle.pools.proofs.changes.withdraw.Statement.{statement}
 use Rattle.pools.proofs.changes.withdraw.Tie as tie
 
 abbrev Inv-loop : tie.InvT-loop
-Inv-loop sender p n q₀ j₀ q j = (n ≤ 16) × (j ≤ n) × (q ≡ pooled (passing (λ e. not (reservedBy sender any e)) (take j (held p))))
+Inv-loop sender p n q₀ j₀ q j = (n ≤ 16) × (j ≤ n) × (q .count ≤ j) × (q ≡ pooled (passing (λ e. not (reservedBy sender any e)) (take j (held p))))
 
 abbrev μ-loop : tie.MeasureT-loop
 μ-loop sender p n q₀ j₀ q j = n - j
 
-returns : tie.Need-returns Inv-loop μ-loop
-unfolding withdrawnFrom
-returns c = rw (eq-eqb _ _ (sym (c .before .reservations .ensures) ∙ c .if1 .taken))
-
 loop-holds : tie.Need-loop-holds Inv-loop μ-loop
 unfolding passing
 loop-holds c =
-    let p = c .before .before .before .before .args .t1 in
+    let p = c .before .before .args .t1 in
     let k : length (p .entries) ≡ 16 = search length-mapped in
-    (omega (arith, c .before .used .ensures, held-fits p), search needs, c .empty-pool .ensures)
+    (omega (arith, c .before .used .ensures, held-fits p), search needs, omega (arith, count-pooled [] (c .empty-pool .ensures)), c .empty-pool .ensures)
 
 loop-again : tie.Need-loop-again Inv-loop μ-loop
 loop-again c =
     let at = c .before .before .before .before in
+    let a = at .before .before .before .args in
     let u = at .before .before .used .ensures in
-    let a = at .before .before .before .before .before .args in (
+    let inv = at .loop .inv in
+    let l = c .before .before .before .loop-test .taken in
+    let turn = passing-turn (a .t1) (omega (arith, u, inv .0)) (at .loop .q) (at .loop .j) (omega (arith, u, l)) (λ e. not (reservedBy (a .sender) any e)) _ (ap not (c .before .reserved-by .ensures)) (inv .3) in (
       search needs,
       search needs,
-      rw (c .append-if .ensures, c .before .reserved-by .ensures)
-          (passing-turn (a .t1) (omega (arith, u, at .loop .inv .0)) (at .loop .q) (at .loop .j) (omega (arith, u, c .before .before .before .loop-test .taken)) (λ e. not (reservedBy (a .sender) any e)) (at .loop .inv .2)),
+      ⊎-elim (λ w. rw (w .1) (omega (arith, inv .2))) (λ w. rw (w .1) (omega (arith, inv .2))) (c .if1 .came),
+      ⊎-elim
+          (λ w. w .1 ∙ store-is _ _ _ refl (omega (arith, inv .0, inv .2, l)) ∙ (rw (w .0 .taken) at turn))
+          (λ w. w .1 ∙ (rw (w .0 .left) at turn))
+          (c .if1 .came),
     )
+
+-- after the last turn
+ended : (c : tie.After-loop Inv-loop μ-loop)
+    → let a = c .before .before .before .before .args in
+    c .before .loop .q ≡ pooled (passing (λ e. not (reservedBy (a .sender) any e)) (held (a .t1)))
+ended c =
+    let at = c .before .before .before in
+    rw (take-all (c .before .loop .j) (held (at .before .args .t1)) (omega (arith, at .used .ensures, c .loop-test .left))) at (c .before .loop .inv .3)
+
+-- the reservations that left and the entries that stayed
+counts : (c : tie.After-loop Inv-loop μ-loop)
+    → let a = c .before .before .before .before .args in
+    reservations (a .sender) any (held (a .t1)) + c .before .loop .q .count ≡ c .before .before .before .used .result
+counts c =
+    let at = c .before .before .before in
+    count-withdrawn _ _ (ended c) ∙ sym (at .used .ensures)
+
+returns : tie.Need-returns Inv-loop μ-loop
+unfolding withdrawnFrom
+returns c =
+    let a = c .before .before .before .before .before .args in
+    rw (eq-eqb (reservations (a .sender) any (held (a .t1))) 0 (omega (arith, counts (c .before), c .if2 .taken)))
 
 returns-2 : tie.Need-returns-2 Inv-loop μ-loop
 unfolding withdrawnFrom
 returns-2 c =
-    let at = c .before .before .before in
-    rw (c .before .loop .inv .2, take-all (c .before .loop .j) (held (at .before .before .before .args .t1)) (omega (arith, at .used .ensures, c .loop-test .left)), ne-eqb _ _ (λ e. at .before .if1 .left (at .before .before .reservations .ensures ∙ e)))
+    let a = c .before .before .before .before .before .args in
+    rw (ended (c .before), ne-eqb (reservations (a .sender) any (held (a .t1))) 0 (λ e. c .if2 .left (omega (arith, counts (c .before), e))))
 
 pub withdraw-spec : {M : Type 1} → statement M
 withdraw-spec =
@@ -56,15 +82,18 @@ withdraw-spec =
     Inv-loop
     μ-loop
     (λ c κs. search needs)
-    returns
-    (λ c κs. search needs)
     (λ c κs. search needs)
     loop-holds
     (λ c. search needs)
     (λ c. search needs)
     (λ c κs. search needs)
-    (λ c κs. search needs)
+    (λ c. search needs)
+    (λ c. search needs)
+    (λ c. search needs)
+    (λ c. search needs)
     (λ c. search needs)
     (λ c. search needs)
     loop-again
+    (λ c. search needs)
+    returns
     returns-2)

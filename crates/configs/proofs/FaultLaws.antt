@@ -8,12 +8,13 @@ use borrow.Author.Tests.{le-leb, ltb-true, ltb-false}
 use lib.Dec.{ltb}
 use lib.ListN.{getD}
 use Rattle.sets.specs.Below.{allBelow, table}
-use Rattle.sets.proofs.Below.{all-same, table-at}
+use Rattle.sets.proofs.Below.{all-same, table-at, table-same}
 use Rattle.model.specs.Sizes.{mostSubjects}
 use Rattle.model.specs.Valid.{noState, stateAt, subjectAt, valid}
+use Rattle.model.specs.Views.{viewOf}
 use Rattle.model.specs.declared.Model.{Model}
 use Rattle.model.specs.declared.State.{State}
-use Rattle.configs.specs.Subjects.{at, hereOf}
+use Rattle.configs.specs.Subjects.{at, hereOf, numbersOf}
 use Rattle.configs.specs.Valid.{subjectValid, isNobody, subjectRightIn, subjectRight, placeRight, typeOf, placesRight, placesRightIn, rightIn, configValid, faultIn, faultOf}
 use Rattle.configs.specs.declared.Config.{Config}
 use Rattle.configs.proofs.ModelFacts.{n-high, subject-there}
@@ -22,6 +23,10 @@ use Rattle.configs.proofs.IndexFacts.{few-states, state-gone, state-the
 -- the state that is read for subject s
 abbrev pub readHere : Model → Config → ℕ → State
 readHere m c s = stateAt m (s * 32 + at c s .state % 32)
+
+-- it is what a view of the model has, by the numbers of the states
+pub view-here : (m : Model) (c : Config) (s : ℕ) → viewOf m (numbersOf c) s .here ≡ table (readHere m c) mostSubjects
+view-here m c s = table-same _ _ mostSubjects (λ r l. ap (λ (t : ℕ). stateAt m (r * 32 + t % 32)) (table-at (λ k. at c k .state) mostSubjects r 0 l))
 
 module _ (m : Model) (c : Config) (here : List State) (is : here ≡ table (readHere m c) mostSubjects) where
   module _ (v : valid m ≡ true) where

@@ -1,7 +1,7 @@
 -- A configuration: for each subject its mode, state, ticks waited, word, the mask of receivers with a place, closed marks and pool.
 use mathlib.Core.Path.{_≡_}
 use mathlib.Core.Bool.{Bool, cond}
-use mathlib.Core.List.{[]}
+use mathlib.Core.List.{List, []}
 use Prim.Native.Nat.{ℕ, _+_, _*_, _^_, _<_}
 use lib.Dec.{eqb}
 use lib.ListN.{length, getD, set, replicate}
@@ -52,6 +52,10 @@ stateOf m s t = stateAt m (s * mostStates + t)
 -- the state in which subject s is
 abbrev pub hereOf : Model → Config → ℕ → State
 hereOf m c s = stateOf m s (at c s .state)
+
+-- the number of the state in which each subject is
+abbrev pub numbersOf : Config → List ℕ
+numbersOf c = table (λ s. at c s .state) mostSubjects
 
 -- ---- changing things
 

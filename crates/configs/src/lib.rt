@@ -13,6 +13,7 @@ pub use starts::fresh;
 pub use valid::fault;
 pub use valid::fault_in;
 pub use valid::is_valid;
+pub use valid::numbers;
 
 // A subject at work. Mode 0 is asleep, 1 running, 2 ended properly, 3 ended improperly; closed has for each sender a mask of types.
 pub struct Subject {

@@ -6,11 +6,10 @@ ghost use lib.ListN.{getD};
 ghost use Rattle.sets.specs.Below.{allBelow};
 ghost use Rattle.model.specs.Sizes.{mostSubjects};
 ghost use Rattle.model.specs.Valid.{noState, noSubject, valid};
-ghost use Rattle.configs.specs.Subjects.{at};
+ghost use Rattle.configs.specs.Subjects.{at, numbersOf};
 ghost use Rattle.configs.specs.Valid.{endRight, sleepRight, maskRight, fieldsRight, marksRight, subjectValid, isNobody, subjectRightIn, placeRight, placesRightIn, configValid, faultIn, faultOf};
 use super::Config;
 use super::Subject;
-use model::MOST_STATES;
 use model::MOST_SUBJECTS;
 use model::Model;
 use model::State;
@@ -188,18 +187,27 @@ pub fn fault_in(
     0
 }
 
+// The number of the state in which each subject is.
+pub fn numbers(c: Config) -> [u8; MOST_SUBJECTS]
+    ensures { λ r. ⌜ r ≡ numbersOf c ⌝ }
+{
+    let mut found = [0; MOST_SUBJECTS];
+    let mut s: usize = 0;
+    while s < MOST_SUBJECTS {
+        found[s] = c.subjects[s].state;
+        s += 1;
+    }
+    found
+}
+
 // 8 where the model is not valid, 10 where the configuration is not valid for it, else 0.
 pub fn fault(m: Model, c: Config) -> u8
     ensures { λ r. ⌜ r ≡ faultOf m c ⌝ }
 {
-    let valid = model::is_valid(m);
-    let mut here = [m.states[0]; MOST_SUBJECTS];
-    let mut s: usize = 0;
-    while s < MOST_SUBJECTS {
-        here[s] = m.states[s * MOST_STATES + (c.subjects[s].state % 32) as usize];
-        s += 1;
-    }
-    fault_in(valid, m.n, m.subjects, here, c)
+    let seen = model::view(m, numbers(c), 0);
+    let own = seen.subjects;
+    let here = seen.here;
+    fault_in(seen.valid, seen.n, own, here, c)
 }
 
 // The model is valid, and the configuration is valid for it.

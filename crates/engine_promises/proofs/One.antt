@@ -35,6 +35,8 @@ use Rattle.configs.proofs.fault.Reads as configs-fault-call
 use Rattle.configs.proofs.fault.Kinds as configs-fault-call-kinds
 use Rattle.configs.proofs.fault_in.Reads as configs-fault-in-call
 use Rattle.configs.proofs.fault_in.Kinds as configs-fault-in-call-kinds
+use Rattle.configs.proofs.numbers.Reads as configs-numbers-call
+use Rattle.configs.proofs.numbers.Kinds as configs-numbers-call-kinds
 use Rattle.configs.proofs.is_valid.Reads as configs-is-valid-call
 use Rattle.configs.proofs.is_valid.Kinds as configs-is-valid-call-kinds
 use Rattle.engine.proofs.step.Reads as engine-step-call
@@ -94,6 +96,9 @@ fault-one κs a x y e p q = p ∙ sym q
 
 pub fault-in-one : OneResult 0 configs-fault-in-call-kinds.ps configs-fault-in-call-kinds.r configs-fault-in-call.Learnt
 fault-in-one κs a x y e p q = p ∙ sym q
+
+pub numbers-one : OneResult 0 configs-numbers-call-kinds.ps configs-numbers-call-kinds.r configs-numbers-call.Learnt
+numbers-one κs a x y e p q = p ∙ sym q
 
 pub config-valid-one : OneResult 0 configs-is-valid-call-kinds.ps configs-is-valid-call-kinds.r configs-is-valid-call.Learnt
 config-valid-one κs a x y e p q = p ∙ sym q

@@ -4,5 +4,6 @@ pub mod Records
 pub mod Stages
 pub mod Decoded
 pub mod Valid
+pub mod Views
 pub mod Loading
 pub mod File

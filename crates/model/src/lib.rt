@@ -19,6 +19,7 @@ pub use sizes::MOST_STATES;
 pub use sizes::MOST_SUBJECTS;
 pub use sizes::STATE_PLACES;
 pub use valid::is_valid;
+pub use valid::view;
 
 // An exit of a state: where it leads; of a receive the sender and the type, of a send the type.
 pub struct Exit {
@@ -76,4 +77,13 @@ pub struct Shape {
 pub struct Loaded {
     pub model: Model,
     pub verdict: Verdict,
+}
+
+// What is seen of a model: whether it is valid, its subjects, a state of each, and the kinds of the states of one.
+pub struct Seen {
+    pub valid: bool,
+    pub n: u8,
+    pub subjects: [Subject; MOST_SUBJECTS],
+    pub here: [State; MOST_SUBJECTS],
+    pub kinds: [u8; MOST_STATES],
 }

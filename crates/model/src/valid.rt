@@ -7,8 +7,10 @@ ghost use Rattle.sets.specs.Below.{allBelow};
 ghost use Rattle.model.specs.Sizes.{mostExits, mostRows};
 ghost use Rattle.model.specs.Rules.{stateFits, stateReaches};
 ghost use Rattle.model.specs.Valid.{exitAt, isBlankExit, isBlankState, exitValid, rowKey, rowAscends, rowValid, subjectOwn, subjectValid, startRight, valid};
+ghost use Rattle.model.specs.Views.{viewOf};
 use super::Model;
 use super::Row;
+use super::Seen;
 use super::State;
 use super::Subject;
 use super::rules;
@@ -186,13 +188,47 @@ fn start_right(n: u8, start: u16) -> bool
     both(start != 0, sets::none_from(n, start))
 }
 
-// Whether some file loads to the model. All in one function: a model that is passed on is copied.
-pub fn is_valid(m: Model) -> bool
-    ensures { λ r. ⌜ r ≡ valid m ⌝ }
+// What is seen, put together.
+fn put_together(
+    valid: bool,
+    n: u8,
+    subjects: [Subject; MOST_SUBJECTS],
+    here: [State; MOST_SUBJECTS],
+    kinds: [u8; MOST_STATES],
+) -> Seen
+    ensures { λ r. ⌜ r ≡ record { valid = valid; n = n; subjects = subjects; here = here; kinds = kinds } ⌝ }
 {
+    Seen {
+        valid: valid,
+        n: n,
+        subjects: subjects,
+        here: here,
+        kinds: kinds,
+    }
+}
+
+// What a step has to see of a model: whether it is valid, its subjects, the state of each that has the number, and the kinds of
+// one subject's states. All in one function: a model that is passed on is copied.
+pub fn view(m: Model, numbers: [u8; MOST_SUBJECTS], subject: u8) -> Seen
+    ensures { λ r. ⌜ r ≡ viewOf m numbers subject ⌝ }
+{
+    let mut here = [m.states[0]; MOST_SUBJECTS];
+    let mut j: usize = 0;
+    while j < MOST_SUBJECTS {
+        here[j] = m.states[j * MOST_STATES + (numbers[j] % 32) as usize];
+        j += 1;
+    }
+    let from = (subject % 16) as usize * MOST_STATES;
+    let mut kinds = [0; MOST_STATES];
+    let mut i: usize = 0;
+    while i < MOST_STATES {
+        kinds[i] = m.states[from + i].kind;
+        i += 1;
+    }
     let n = m.n;
+    let subjects = m.subjects;
     if !both(sets::is_within(1, n, 16), start_right(n, m.start)) {
-        return false;
+        return put_together(false, n, subjects, here, kinds);
     }
     let mut exits: usize = 0;
     let mut s: usize = 0;
@@ -200,14 +236,14 @@ pub fn is_valid(m: Model) -> bool
         let sub = m.subjects[s];
         let first = m.states[s * MOST_STATES + (sub.initial % 32) as usize];
         if !subject_valid(n, s as u8, sub, first.kind) {
-            return false;
+            return put_together(false, n, subjects, here, kinds);
         }
         let states = sub.states as usize;
         let mut t: usize = 0;
         while t < states {
             let st = m.states[s * MOST_STATES + t];
             if !state_valid(n, sub.states, st) {
-                return false;
+                return put_together(false, n, subjects, here, kinds);
             }
             exits += st.exits as usize;
             t += 1;
@@ -222,9 +258,16 @@ pub fn is_valid(m: Model) -> bool
             t += 1;
         }
         if !both(own == 0, others == 0) {
-            return false;
+            return put_together(false, n, subjects, here, kinds);
         }
         s += 1;
     }
-    exits <= MOST_EXITS_IN_ALL
+    put_together(exits <= MOST_EXITS_IN_ALL, n, subjects, here, kinds)
+}
+
+// Whether some file loads to the model.
+pub fn is_valid(m: Model) -> bool
+    ensures { λ r. ⌜ r ≡ valid m ⌝ }
+{
+    view(m, [0; MOST_SUBJECTS], 0).valid
 }

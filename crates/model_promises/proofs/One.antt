@@ -48,6 +48,8 @@ use Rattle.model.proofs.load.Reads as load-call
 use Rattle.model.proofs.load.Kinds as load-call-kinds
 use Rattle.model.proofs.is_valid.Reads as is-valid-call
 use Rattle.model.proofs.is_valid.Kinds as is-valid-call-kinds
+use Rattle.model.proofs.view.Reads as view-call
+use Rattle.model.proofs.view.Kinds as view-call-kinds
 use Rattle.sets.proofs.rest.Reads as rest-call
 use Rattle.sets.proofs.rest.Kinds as rest-call-kinds
 use Rattle.blocks.proofs.block.Reads as block-call
@@ -129,6 +131,9 @@ load-one κs a x y e p q = p ∙ sym q
 
 pub is-valid-one : OneResult 0 is-valid-call-kinds.ps is-valid-call-kinds.r is-valid-call.Learnt
 is-valid-one κs a x y e p q = p ∙ sym q
+
+pub view-one : OneResult 0 view-call-kinds.ps view-call-kinds.r view-call.Learnt
+view-one κs a x y e p q = p ∙ sym q
 
 -- ---- a part of the caller's slice: the bytes are fixed, and the part is the caller's own
 

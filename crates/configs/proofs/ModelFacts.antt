@@ -12,9 +12,10 @@ use Rattle.sets.specs.Tests.{within, same, noneFrom}
 use Rattle.sets.proofs.Tests.{Both, and-both, within-is}
 use Rattle.sets.proofs.Below.{all-each}
 use Rattle.sets.proofs.Masks.{none-bits}
+use Rattle.model.specs.Records.{withExits}
 use Rattle.model.specs.Rules.{any, isType, shapeOf, namesFit, stateFits, exitFits, thereOrAny, stateReaches, exitReaches}
 use Rattle.model.specs.Sizes.{mostSubjects, mostStates, statePlaces, mostExits, types}
-use Rattle.model.specs.Valid.{subjectAt, exitAt, exitValid, rowValid, stateOwn, stateValid, subjectOwn, subjectValid, subjectRight, stateRight, startRight, exitsInAll, valid}
+use Rattle.model.specs.Valid.{subjectAt, exitAt, exitValid, rowValid, stateOwn, stateValid, subjectOwn, subjectValid, subjectRight, stateRight, startRight, exitsInAll, noMoreExits, valid}
 use Rattle.model.specs.declared.Model.{Model}
 use Rattle.model.specs.declared.State.{State}
 use Rattle.model.specs.declared.Subject.{Subject}
@@ -46,11 +47,8 @@ record Tested (m : Model) : Type 0 where
 tested : (m : Model) → valid m ≡ true → Tested m
 unfolding valid
 tested m h =
-    let e =
-    and-both
-    ((within 1 (m .n) 16 && startRight (m .n) (m .start)) && allBelow (subjectRight m) 16 && allBelow (stateRight m) 512)
-    (leb (exitsInAll m) 1024)
-    h in
+    let all = (within 1 (m .n) 16 && startRight (m .n) (m .start)) && allBelow (subjectRight m) 16 && allBelow (stateRight m) 512 in
+    let e = and-both all (leb (exitsInAll m) 1024) (and-both (all && leb (exitsInAll m) 1024) (noMoreExits m) h .left) in
     let t = and-both ((within 1 (m .n) 16 && startRight (m .n) (m .start)) && allBelow (subjectRight m) 16) (allBelow (stateRight m) 512) (e .left) in
     let b = and-both (within 1 (m .n) 16 && startRight (m .n) (m .start)) (allBelow (subjectRight m) 16) (t .left) in
     record { subjects = all-each (subjectRight m) 16 (b .right); states = all-each (stateRight m) 512 (t .right) }
@@ -185,7 +183,7 @@ module _ (m : Model) (h : valid m ≡ true) (s : ℕ) (l : s < m .n) where
   subject-there = omega (arith, n-high m h)
 
   own : RightOwn (subjectAt m s) (stateOf m s (subjectAt m s .initial) .kind)
-  unfolding subjectRight
+  unfolding subjectRight withExits
   own = right-own (m .n) s (subjectAt m s) (stateOf m s (subjectAt m s .initial) .kind) l (tested m h .subjects s subject-there)
 
   pub states-few : subjectAt m s .states ≤ mostStates
@@ -211,4 +209,4 @@ module _ (m : Model) (h : valid m ≡ true) (s : ℕ) (l : s < m .n) where
       (stateOf m s t)
       k
       (model-good m h .state (s * 32 + t) p .small .exits)
-      (rw (q, r) at (tested m h .states (s * 32 + t) p))
+      (and-both _ _ (rw (q, r) at (tested m h .states (s * 32 + t) p)) .left)

@@ -1,17 +1,18 @@
 // Whether a pool is shared out: every sender has its own row, and the limits fit into the pool together.
 ghost use mathlib.Core.Path.{_≡_};
-ghost use mathlib.Core.Bool.{not, true};
+ghost use mathlib.Core.Bool.{not, true, _&&_};
 ghost use Prim.Native.Nat.{_<_, _≤_};
 ghost use lib.Dec.{eqb};
 ghost use Rattle.sets.specs.Below.{allBelow};
 ghost use Rattle.model.specs.Sizes.{mostRows};
 ghost use Rattle.model.specs.Valid.{rowAt, valid};
-ghost use Rattle.configs.specs.Shares.{rowNames, rowsName, noneTwice, hasRow, sendsTo, canSend, sendersHaveRows, limitsFit, shareOf};
+ghost use Rattle.sets.specs.Masks.{bit};
+ghost use Rattle.configs.specs.Subjects.{isSend};
+ghost use Rattle.configs.specs.Shares.{rowNames, rowsName, noneTwice, hasRow, canSend, sendersHaveRows, limitsFit, shareOf};
 use super::Share;
 use model::MOST_STATES;
 use model::Model;
 use model::Row;
-use model::State;
 use model::Subject;
 use sets::both;
 
@@ -88,11 +89,11 @@ fn has_row(own: Subject, s: u8) -> bool
     false
 }
 
-// The state is a send and names the owner.
-fn sends_to(owner: u8, st: State) -> bool
-    ensures { λ r. ⌜ r ≡ sendsTo owner st ⌝ }
+// A state of the kind and with the receivers is a send and names the owner.
+fn sends_to(owner: u8, kind: u8, receivers: u16) -> bool
+    ensures { λ r. ⌜ r ≡ (isSend kind && bit receivers owner) ⌝ }
 {
-    both(st.kind == 2, sets::has(st.receivers, owner))
+    both(kind == 2, sets::has(receivers, owner))
 }
 
 // Subject s has a send state that names the owner.
@@ -105,7 +106,8 @@ fn can_send(m: Model, owner: u8, s: usize) -> bool
     let n = own.states as usize;
     let mut t: usize = 0;
     while t < n {
-        if sends_to(owner, m.states[s * MOST_STATES + t]) {
+        let st = m.states[s * MOST_STATES + t];
+        if sends_to(owner, st.kind, st.receivers) {
             return true;
         }
         t += 1;

@@ -5,9 +5,11 @@ use mathlib.Core.Bool.{true}
 use mathlib.Core.List.{List, [], _∷_}
 use Prim.Native.Nat.{ℕ}
 use Rattle.sets.specs.Below as below
+use Rattle.sets.specs.Groups as groups
 use Rattle.sets.specs.Lists as lists
 use Rattle.sets.specs.Masks as masks
 use Rattle.blocks.specs.Checks as checks
+use Rattle.model.specs.Records as model-records
 use Rattle.model.specs.Rules as model-rules
 use Rattle.model.specs.Valid.{valid}
 use Rattle.model.specs.Valid as model-valid
@@ -54,11 +56,13 @@ actedFrom m c (k ∷ ks) = actedFrom m (acted m c k .config) ks
 unfoldable pub computing : Unit {0}
 unfolding
     below.allBelow below.sumBelow below.tableFrom
+    groups.inPlaces
     lists.allOf lists.passing lists.counted lists.firstFrom lists.without lists.padded lists.folded
     masks.bit masks.withBit masks.withoutBit masks.members masks.others
     checks.checkOf
+    model-records.withExits
     model-rules.shapeOf model-rules.namesFit model-rules.stateFits model-rules.exitFits model-rules.rowFits model-rules.stateReaches model-rules.exitReaches model-rules.rowReaches
-    model-valid.isBlankState model-valid.exitValid model-valid.stateOwn model-valid.stateValid model-valid.rowValid model-valid.subjectOwn model-valid.subjectValid model-valid.subjectRight model-valid.stateRight model-valid.exitsInAll model-valid.valid
+    model-valid.exitsFrom model-valid.isBlankState model-valid.exitValid model-valid.stateOwn model-valid.stateValid model-valid.rowValid model-valid.subjectOwn model-valid.subjectValid model-valid.subjectRight model-valid.firstRight model-valid.stateRight model-valid.exitsInAll model-valid.noneAfter model-valid.noMoreExits model-valid.valid
     samples.modelP
     entries.matches entries.isMessage entries.reservedBy entries.delivered
     pools.held pools.pooled pools.appended pools.firstMessage pools.takenAt pools.reservations pools.deliveredIn pools.withdrawnFrom

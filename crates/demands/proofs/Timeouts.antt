@@ -15,7 +15,7 @@ use Rattle.model.specs.Rules.{any}
 use Rattle.model.specs.Sizes.{mostSubjects}
 use Rattle.model.specs.Valid.{valid}
 use Rattle.model.specs.declared.Model.{Model}
-use Rattle.configs.specs.Subjects.{endedImproperly, at, hereOf}
+use Rattle.configs.specs.Subjects.{endedImproperly, isSend, at, hereOf}
 use Rattle.configs.specs.Valid.{subjectRight, placesRight, configValid}
 use Rattle.configs.specs.declared.Config.{Config}
 use Rattle.configs.proofs.IndexFacts.{state-there}
@@ -73,8 +73,9 @@ module _ (m : Model) (c : Config) (s : ℕ) (v : valid m ≡ true) (g : configVa
   can-test : CanBeDelivered m c s ↔ (canDeliver (hereOf m c s) c s ≡ true)
   unfolding canDeliver
   can-test = (
-    λ d. let t = can-exact .0 d in rw (i .sends, t .0, t .1),
-    λ h. let t = and-both (not (placeMissing (hereOf m c s) c s)) (not (someImproper (hereOf m c s) c)) (rw (i .sends) at h) in
+    λ d. let t = can-exact .0 d in rw (eq-eqb (hereOf m c s .kind) 2 (i .sends), t .0, t .1),
+    λ h. let ready = not (placeMissing (hereOf m c s) c s) && not (someImproper (hereOf m c s) c) in
+        let t = and-both (not (placeMissing (hereOf m c s) c s)) (not (someImproper (hereOf m c s) c)) (and-both (isSend (hereOf m c s .kind)) ready h .right) in
         can-exact .1 (not-true _ (t .left), not-true _ (t .right)),
   )
 
@@ -83,7 +84,7 @@ module _ (m : Model) (c : Config) (s : ℕ) (v : valid m ≡ true) (g : configVa
   unfolding guarded noSubject notRunning wrongKind noExit noMessage notPlaced improperReceiver noTarget tooEarly sendFirst
   deliver-exact = (
     λ h. let a = accepted-tells m c (Deliver s) h refl in (a .placed, a .proper),
-    λ t. rw (step-is m c (Deliver s), v, g, lt-leb (m .n) s (i .there), i .runs, i .sends, t .0, t .1) (effect-fine m c (Deliver s)),
+    λ t. rw (step-is m c (Deliver s), v, g, lt-leb (m .n) s (i .there), i .runs, eq-eqb (hereOf m c s .kind) 2 (i .sends), t .0, t .1) (effect-fine m c (Deliver s)),
   )
 
   -- 18, 19 and 20 are left for Expire

@@ -2,32 +2,21 @@
 -- valve that takes it from each, again and again. A send times out after 2 ticks. The valve's pool has a row for each probe:
 -- any type, 1.
 use mathlib.Core.List.{_∷_, _++_}
+use Prim.Native.Nat.{ℕ}
 use lib.ListN.{replicate}
-use Rattle.model.specs.Records.{blankExit, blankRow, blankRows, blankState, blankSubject}
+use Rattle.model.specs.Records.{blankRow, blankRows, blankStored, blankSubject}
 use Rattle.model.specs.Rules.{any}
 use Rattle.model.specs.declared.Model.{Model}
-use Rattle.model.specs.declared.State.{State}
+use Rattle.model.specs.declared.Stored.{Stored}
 use Rattle.model.specs.declared.Subject.{Subject}
-use Rattle.model_promises.specs.Samples.{oneExit}
 
--- a probe's only state
-abbrev pub sends : State
-sends = record { kind = 2; exits = 1; sender = any; typ = any; after = 2; timeout = 0; cancel = any; receivers = 2; exit = oneExit 0 any 0 }
+-- a probe's only state, with its exit at `first`
+abbrev pub sends : ℕ → Stored
+sends first = record { kind = 2; exits = 1; sender = any; typ = any; after = 2; timeout = 0; cancel = any; receivers = 2; first = first }
 
--- the valve's only state
-abbrev pub takes : State
-takes =
-    record {
-      kind = 3;
-      exits = 2;
-      sender = any;
-      typ = any;
-      after = 0;
-      timeout = any;
-      cancel = any;
-      receivers = 0;
-      exit = record { target = 0; sender = 0; typ = 0 } ∷ record { target = 0; sender = 2; typ = 0 } ∷ replicate 6 blankExit;
-    }
+-- the valve's only state, with its exits from `first` on
+abbrev pub takes : ℕ → Stored
+takes first = record { kind = 3; exits = 2; sender = any; typ = any; after = 0; timeout = any; cancel = any; receivers = 0; first = first }
 
 abbrev pub probe : Subject
 probe = record { states = 1; initial = 0; rows = 0; row = blankRows }
@@ -48,5 +37,8 @@ orchard =
       n = 3;
       start = 7;
       subjects = probe ∷ valve ∷ probe ∷ replicate 13 blankSubject;
-      states = sends ∷ replicate 31 blankState ++ takes ∷ replicate 31 blankState ++ sends ∷ replicate 447 blankState;
+      states = sends 0 ∷ replicate 31 blankStored ++ takes 1 ∷ replicate 31 blankStored ++ sends 3 ∷ replicate 447 blankStored;
+      targets = replicate 1024 0;
+      senders = any ∷ 0 ∷ 2 ∷ any ∷ replicate 1020 0;
+      types = replicate 1024 0;
     }

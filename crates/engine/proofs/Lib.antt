@@ -1,5 +1,4 @@
 pub mod RuleLaws
-pub mod ReserveLaws
 pub mod KeptOne
 pub mod StillLaws
 pub mod SweepLaws

@@ -2,16 +2,18 @@
 use mathlib.Core.Path.{_≡_, refl, sym, ap, subst, _∙_}
 use mathlib.Core.Bool.{Bool, true, false, _&&_, _||_, not, cond, or-false, and-true, and-false}
 use mathlib.Core.List.{List}
-use Prim.Native.Nat.{ℕ, _+_, _^_, _≤_, _<_}
+use Prim.Native.Nat.{ℕ, _+_, _-_, _^_, _≤_, _<_}
 use native.Mathlib.Omega.{arith}
 use borrow.Author.Tests.{eq-eqb, eqb-true, eqb-false, lt-ltb, le-ltb, ltb-true, ltb-false}
+use lib.Bits.{bitAnd}
 use lib.Dec.{eqb, ltb}
 use lib.ListN.{length, getD, length-set}
 use lib.Pow.{pow-pos}
 use lib.Seq.{getD-set-same, getD-set-other}
-use Rattle.sets.specs.Masks.{bit}
+use Rattle.sets.specs.Lists.{folded}
+use Rattle.sets.specs.Masks.{bit, members}
 use Rattle.sets.proofs.Tests.{not-both}
-use Rattle.sets.proofs.Masks.{bit-with, bit-zero, with-lt, turns-others}
+use Rattle.sets.proofs.Masks.{bit-with, bit-zero, with-lt, members-minus, turns-others}
 use Rattle.model.specs.Sizes.{mostSubjects}
 use Rattle.model.specs.Valid.{noSubject}
 use Rattle.model.specs.declared.State.{State}
@@ -291,6 +293,13 @@ module _ (subjects : List model-subject.Subject) (here : State) (c : Config) (s 
     turn-is : turnOf subjects s (typeOf here) now n ≡ turnAs (replyIn subjects here c s n) s (typeOf here) now n
     unfolding turnOf replyIn
     turn-is = ap (λ (x : Subject). turnAs (replyOf (getD subjects n noSubject) x s (typeOf here)) s (typeOf here) now n) (h .later n (omega arith))
+
+  -- the turns are those of the receivers that are not in the mask
+  pub turns-all : at c s .mask < 2 ^ mostSubjects
+      → folded (turnOf subjects s (typeOf here)) (begun c (at c s .mask)) (members mostSubjects (bitAnd (here .receivers) (2 ^ mostSubjects - 1 - at c s .mask)))
+      ≡ rounds subjects here c s
+  unfolding rounds
+  turns-all h = rw (members-minus mostSubjects (here .receivers) (at c s .mask) h)
 
   -- after the round
   pub round-after : After mostSubjects (rounds subjects here c s)

@@ -5,9 +5,9 @@ ghost use Prim.Native.Nat.{_+_, _<_, _≤_, min};
 ghost use Rattle.model.specs.Sizes.{mostSubjects};
 ghost use Rattle.model.specs.Valid.{exitAt};
 ghost use Rattle.pools.specs.Pools.{withdrawnFrom};
-ghost use Rattle.configs.specs.Subjects.{at, put, withPool};
-ghost use Rattle.engine.specs.Effects.{targetOf, enters, wantedAt, ranAs, started, deliveredAs, delivering, leaving, ticking};
-ghost use Rattle.engine.specs.InPlace.{PlacedAmong, tookAs, ownAs, handles, waiters, reached, touchedAs, arrivedAs};
+ghost use Rattle.configs.specs.Subjects.{withPool};
+ghost use Rattle.engine.specs.Effects.{targetOf, wantedAt, ranAs, started, deliveredAs};
+ghost use Rattle.engine.specs.InPlace.{tookAs, ownAs, handles, waiters, reached, touchedAs, arrivedAs};
 use super::Command;
 use super::marks;
 use super::reserving;
@@ -52,18 +52,6 @@ pub(crate) fn target(here: State, x: Subject, k: Command) -> u8
         Command::Cancel { subject: _ } => here.cancel,
         Command::Tick => 0,
     }
-}
-
-// Subject s enters a state.
-fn enter_at(c: Config, s: u8, t: u8, end: bool) -> Config
-    requires { ⌜ s < mostSubjects ⌝ }
-    ensures { λ r. ⌜ r ≡ enters c s t end ⌝ }
-{
-    let i = s as usize;
-    let mut d = c;
-    let x = d.subjects[i];
-    d.subjects[i] = x.enter(t, end);
-    d
 }
 
 // Whether a command changes the own pool or its marks.
@@ -167,17 +155,6 @@ pub(crate) fn own(n: u8, here: State, end: bool, me: Subject, k: Command) -> Sub
     }
 }
 
-// The configuration after a command that changes its own subject alone.
-pub(crate) fn own_at(n: u8, here: State, end: bool, c: Config, s: u8, k: Command) -> Config
-    requires { ⌜ s < mostSubjects ⌝ }
-    ensures { λ r. ⌜ r ≡ put c s (ownAs n here end (at c s) k) ⌝ }
-{
-    let i = s as usize;
-    let mut d = c;
-    d.subjects[i] = own(n, here, end, d.subjects[i], k);
-    d
-}
-
 // Asleep or ended properly, a receiver starts at its initial state; its marks and pool stay.
 fn start(initial: u8, x: Subject) -> Subject
     ensures { λ r. ⌜ r ≡ started initial x ⌝ }
@@ -203,31 +180,6 @@ fn deliver_to(initial: u8, s: u8, word: u32, x: Subject) -> Subject
     start(initial, y)
 }
 
-// Deliver: in every pool the sender's reservations become messages, receivers start, then the sender enters the target. They
-// are in the pools of the receivers only.
-pub(crate) fn deliver(
-    subjects: [model::Subject; MOST_SUBJECTS],
-    here: State,
-    end: bool,
-    c: Config,
-    s: u8,
-) -> Config
-    requires { ⌜ s < mostSubjects ⌝ }
-    requires { ⌜ PlacedAmong (here .receivers) c s ⌝ }
-    ensures { λ r. ⌜ r ≡ delivering subjects here end c s ⌝ }
-{
-    let mut d = c;
-    let word = d.subjects[s as usize].word;
-    let mut left = here.receivers;
-    while left != 0 {
-        let p = sets::part(left);
-        let r = p.first as usize;
-        d.subjects[r] = deliver_to(subjects[r].initial, s, word, d.subjects[r]);
-        left = p.rest;
-    }
-    enter_at(d, s, exit_of(here, 0).target, end)
-}
-
 // One subject as s withdraws.
 fn withdraw_at(s: u8, x: Subject) -> Subject
     ensures { λ r. ⌜ r ≡ withPool (withdrawnFrom s (x .pool)) x ⌝ }
@@ -235,37 +187,6 @@ fn withdraw_at(s: u8, x: Subject) -> Subject
     let mut y = x;
     y.pool = pools::withdraw(x.pool, s);
     y
-}
-
-// Expire and Cancel: own reservations are withdrawn from all pools, then the target is entered. They are in the pools of
-// those in the mask only.
-pub(crate) fn leave(t: u8, end: bool, c: Config, s: u8) -> Config
-    requires { ⌜ s < mostSubjects ⌝ }
-    requires { ⌜ PlacedAmong (at c s .mask) c s ⌝ }
-    ensures { λ r. ⌜ r ≡ leaving t end c s ⌝ }
-{
-    let mut d = c;
-    let mut left = d.subjects[s as usize].mask;
-    while left != 0 {
-        let turn = sets::part(left);
-        let r = turn.first as usize;
-        d.subjects[r] = withdraw_at(s, d.subjects[r]);
-        left = turn.rest;
-    }
-    enter_at(d, s, t, end)
-}
-
-// 16, whatever n: a number that the compiler cannot foresee. With 16 itself it takes the loop apart, and with it every
-// copy of a configuration.
-fn bound(n: u8) -> usize
-    requires { ⌜ n ≤ mostSubjects ⌝ }
-    ensures { λ r. ⌜ r ≡ mostSubjects ⌝ }
-{
-    let most = n as usize;
-    if most < MOST_SUBJECTS {
-        return MOST_SUBJECTS;
-    }
-    most
 }
 
 // One tick more, up to 65,535.
@@ -276,24 +197,6 @@ pub(crate) fn one_more(waited: u16) -> u16
         return waited;
     }
     waited + 1
-}
-
-// Tick: every running subject has waited one more.
-pub(crate) fn tick(n: u8, c: Config) -> Config
-    requires { ⌜ n ≤ mostSubjects ⌝ }
-    ensures { λ r. ⌜ r ≡ ticking c ⌝ }
-{
-    let most = bound(n);
-    let mut d = c;
-    let mut r: usize = 0;
-    while r < most {
-        if d.subjects[r].mode == 1 {
-            let waited = one_more(d.subjects[r].waited);
-            d.subjects[r].waited = waited;
-        }
-        r += 1;
-    }
-    d
 }
 
 // How many subjects, from the first on, a command has wait one more: at a tick that is accepted the n that there are.
@@ -373,8 +276,7 @@ pub(crate) fn touch(
             exit: _,
         } => x,
         Command::Run { subject: _ } => x,
-        Command::Expire { subject: _ } => withdraw_at(s, x),
-        Command::Cancel { subject: _ } => withdraw_at(s, x),
+        Command::Expire { subject: _ } | Command::Cancel { subject: _ } => withdraw_at(s, x),
         Command::Tick => x,
     }
 }

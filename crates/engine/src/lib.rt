@@ -1,5 +1,4 @@
 // The stepping: one command on a configuration, coded commands, and whole tapes of them.
-mod acting;
 mod commands;
 mod effects;
 mod marks;

@@ -4,16 +4,14 @@ ghost use mathlib.Core.Bool.{cond};
 ghost use Prim.Native.Nat.{_<_};
 ghost use Rattle.model.specs.Sizes.{mostSubjects};
 ghost use Rattle.sets.specs.Masks.{withBit};
-ghost use Rattle.engine.specs.InPlace.{servedAs};
-ghost use Rattle.engine.specs.Reserve.{isClosed, replyOf, withPlace, noted, reserving};
+ghost use Rattle.engine.specs.InPlace.{servedAs, heardAs, answerTo};
+ghost use Rattle.engine.specs.Reserve.{isClosed, replyOf, withPlace, noted};
+use super::Command;
 use super::Places;
 use super::Reply;
 use super::effects;
 use configs::Answer;
-use configs::Config;
-use configs::Stepped;
 use configs::Subject;
-use model::MOST_SUBJECTS;
 use model::State;
 use pools::Entry;
 
@@ -117,46 +115,83 @@ fn note(reply: Reply, r: u8, places: Places) -> Places
     }
 }
 
-// The turns of all receivers that are not in the sender's mask, and what comes of them.
-pub(crate) fn reserve(
-    subjects: [model::Subject; MOST_SUBJECTS],
-    here: State,
-    c: Config,
-    s: u8,
-) -> Stepped
-    requires { ⌜ s < mostSubjects ⌝ }
-    ensures { λ r. ⌜ r ≡ reserving subjects here c s ⌝ }
+// Before the first answer: the sender's mask, and no one in the four others.
+pub(crate) fn none(before: u16) -> Places
+    ensures { λ q. ⌜ q ≡ record { mask = before; placed = 0; improper = 0; closed = 0; full = 0 } ⌝ }
 {
-    let typ = effects::exit_of(here, 0).typ;
-    let i = s as usize;
-    let mut d = c;
-    let before = d.subjects[i].mask;
-    let mut places = Places {
+    Places {
         mask: before,
         placed: 0,
         improper: 0,
         closed: 0,
         full: 0,
-    };
-    let mut left = here.receivers & !before;
-    while left != 0 {
-        let p = sets::part(left);
-        let r = p.first as usize;
-        let x = d.subjects[r];
-        let reply = reply_of(subjects[r], x, s, typ);
-        d.subjects[r] = with_place(reply, s, typ, x);
-        places = note(reply, p.first, places);
-        left = p.rest;
     }
-    d.subjects[i].mask = places.mask;
-    Stepped {
-        config: d,
-        answer: Answer::Reserved {
+}
+
+// At Reserve, what receiver r answers to s is noted.
+pub(crate) fn heard(
+    owner: model::Subject,
+    here: State,
+    s: u8,
+    r: u8,
+    x: Subject,
+    places: Places,
+    k: Command,
+) -> Places
+    requires { ⌜ s < mostSubjects ⌝ }
+    requires { ⌜ r < mostSubjects ⌝ }
+    ensures { λ q. ⌜ q ≡ heardAs owner here s r x places k ⌝ }
+{
+    match k {
+        Command::Do {
+            subject: _,
+            exit: _,
+            word: _,
+        } => places,
+        Command::Reserve { subject: _ } => {
+            let typ = effects::exit_of(here, 0).typ;
+            note(reply_of(owner, x, s, typ), r, places)
+        }
+        Command::Deliver { subject: _ } => places,
+        Command::Take {
+            subject: _,
+            exit: _,
+        } => places,
+        Command::Run { subject: _ } => places,
+        Command::Expire { subject: _ } => places,
+        Command::Cancel { subject: _ } => places,
+        Command::Tick => places,
+    }
+}
+
+// The answer of a step: the refusal, or at Reserve the four masks and the number of receivers still without a place.
+pub(crate) fn answer(number: u8, here: State, places: Places, k: Command) -> Answer
+    ensures { λ q. ⌜ q ≡ answerTo number here places k ⌝ }
+{
+    if number != 0 {
+        return Answer::Refused(number);
+    }
+    match k {
+        Command::Do {
+            subject: _,
+            exit: _,
+            word: _,
+        } => Answer::Done,
+        Command::Reserve { subject: _ } => Answer::Reserved {
             placed: places.placed,
             improper: places.improper,
             closed: places.closed,
             full: places.full,
             missing: sets::missing(here.receivers, places.mask),
         },
+        Command::Deliver { subject: _ } => Answer::Done,
+        Command::Take {
+            subject: _,
+            exit: _,
+        } => Answer::Done,
+        Command::Run { subject: _ } => Answer::Done,
+        Command::Expire { subject: _ } => Answer::Done,
+        Command::Cancel { subject: _ } => Answer::Done,
+        Command::Tick => Answer::Done,
     }
 }

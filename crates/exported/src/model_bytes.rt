@@ -75,13 +75,14 @@ pub(crate) fn put_model(m: Model, room: &mut [u8])
     room[0] = m.n;
     room[1] = numbers::short_byte(m.start, 0);
     room[2] = numbers::short_byte(m.start, 1);
+    let states = model::states(m);
     let mut j: usize = 3;
     while j < 435 {
         room[j] = own_byte(m.subjects[(j - 3) / 27], (j - 3) % 27);
         j += 1;
     }
     while j < MODEL {
-        room[j] = state_byte(m.states[(j - 435) / 34], (j - 435) % 34);
+        room[j] = state_byte(states[(j - 435) / 34], (j - 435) % 34);
         j += 1;
     }
 }

@@ -1,26 +1,31 @@
--- A state that is not there: all zero.
+-- The places of a model: where a subject has a state, and where there is nothing but zeros.
 use mathlib.Core.Path.{_≡_, refl, sym, _∙_}
 use mathlib.Core.Bool.{Bool, true, false, _&&_, not, cond}
-use Prim.Native.Nat.{ℕ, suc, _+_, _*_, _/_, _%_, _≤_, _<_}
-use native.Mathlib.Nat.{mul-le-mul-right}
+use mathlib.Core.List.{List, [], _∷_}
+use Prim.Native.Nat.{ℕ, zero, suc, _+_, _*_, _/_, _%_, _≤_, _<_}
+use native.Mathlib.Nat.{mul-le-mul-right, not-suc-le-zero, le-of-suc-le-suc}
 use native.Mathlib.Omega.{arith}
-use borrow.Author.Tests.{eqb-true, eqb-false, eq-eqb, ne-eqb, ltb-true, ltb-false, lt-ltb, le-ltb}
+use borrow.Author.Tests.{eqb-true, eqb-false, eq-eqb, ne-eqb, ltb-true, ltb-false, lt-ltb, le-ltb, le-leb, leb-true}
 use lib.Bits.{bitOr, or-add-and, and-le-l, and-le-r}
 use lib.Dec.{eqb, leb, ltb}
+use lib.ListN.{length, getD}
 use Rattle.sets.specs.Below.{allBelow, sumBelow}
+use Rattle.sets.specs.Groups.{inPlaces}
 use Rattle.sets.specs.Tests.{within}
-use Rattle.sets.proofs.Tests.{not-both, and-both, and-false, is-false, within-is, choose}
-use Rattle.sets.proofs.Below.{all-stop, all-each, all-by, all-same, sum-more}
-use Rattle.model.specs.Sizes.{mostExits}
-use Rattle.model.specs.Rules.{stateFits, stateReaches}
-use Rattle.model.specs.Valid.{subjectAt, stateAt, exitAt, isBlankExit, isBlankState, isEmptyState, exitValid, stateOwn, stateValid, rowValid, subjectFits, isBlankSubject, subjectOwn, subjectValid, kindAt, subjectRight, stateRight, startRight, exitsInAll, valid}
+use Rattle.sets.proofs.Tests.{not-both, and-both, and-true, and-false, is-false, within-is, choose}
+use Rattle.sets.proofs.Below.{all-stop, all-each, all-by, sum-more, fill-start, fill-rest}
+use Rattle.sets.proofs.Groups.{in-places-at}
+use Rattle.model.specs.Records.{blankExit, blankExits, withExits}
+use Rattle.model.specs.Rules.{stateFits, stateReaches, exitFits, exitReaches}
+use Rattle.model.specs.Valid.{subjectAt, storedAt, exitNo, exitsFrom, unpacked, stateAt, exitAt, isBlankState, isBlankStored, exitValid, stateOwn, stateValid, storedValid, rowValid, subjectFits, isBlankSubject, subjectOwn, subjectValid, kindAt, subjectRight, exitsBefore, firstRight, stateRight, startRight, exitsInAll, noneAfter, noMoreExits, valid}
 use Rattle.model.specs.declared.Exit.{Exit}
 use Rattle.model.specs.declared.Model.{Model}
 use Rattle.model.specs.declared.State.{State}
+use Rattle.model.specs.declared.Stored.{Stored}
 use Rattle.model.specs.declared.Subject.{Subject}
 
 -- two numbers are 0 exactly when their bits together are
-or-none : (a b : ℕ) → eqb (bitOr a b) 0 ≡ (eqb a 0 && eqb b 0)
+pub or-none : (a b : ℕ) → eqb (bitOr a b) 0 ≡ (eqb a 0 && eqb b 0)
 or-none a b = go (eqb a 0) refl (eqb b 0) refl
   where
     go : (x : Bool) → eqb a 0 ≡ x → (y : Bool) → eqb b 0 ≡ y → eqb (bitOr a b) 0 ≡ (eqb a 0 && eqb b 0)
@@ -42,47 +47,48 @@ sum-none a k b p = go (eqb a 0) refl (eqb b 0) refl
     go true e false f = rw (e, f) (ne-eqb (a + k * b) 0 (λ (z : a + k * b ≡ 0). eqb-false b 0 f (omega (arith, more))))
     go false e y f = rw e (ne-eqb (a + k * b) 0 (λ (z : a + k * b ≡ 0). eqb-false a 0 e (omega arith)))
 
-and-assoc : (a b c : Bool) → (a && (b && c)) ≡ ((a && b) && c)
+pub and-assoc : (a b c : Bool) → (a && (b && c)) ≡ ((a && b) && c)
 and-assoc true b c = refl
 and-assoc false b c = refl
 
--- the fields of a blank state, as one number
-pub blank-is : (st : State)
-    → eqb (bitOr (st .kind + 256 * st .exits + 65536 * st .sender + 16777216 * st .typ + 4294967296 * st .after + 281474976710656 * st .timeout + 72057594037927936 * st .cancel) (st .receivers)) 0
-    ≡ isBlankState st
-unfolding isBlankState
+-- what is kept of a state, as one number
+pub blank-is : (st : Stored)
+    → eqb (bitOr (st .kind + 256 * st .exits + 65536 * st .sender + 16777216 * st .typ + 4294967296 * st .after + 281474976710656 * st .timeout + 72057594037927936 * st .cancel) (st .receivers + 65536 * st .first)) 0
+    ≡ isBlankStored st
+unfolding isBlankStored isBlankState withExits
 blank-is st = simp (or-none, sum-none, and-assoc)
 
--- eight bytes, as one number
-abbrev pub eightOf : (a b c d e f g h : ℕ) → ℕ
-eightOf a b c d e f g h = a + 256 * b + 65536 * c + 16777216 * d + 4294967296 * e + 1099511627776 * f + 281474976710656 * g + 72057594037927936 * h
+-- ---- the exits of a state
 
-eight-none : (a b c d e f g h : ℕ)
-    → eqb (eightOf a b c d e f g h) 0 ≡ (eqb a 0 && eqb b 0 && eqb c 0 && eqb d 0 && eqb e 0 && eqb f 0 && eqb g 0 && eqb h 0)
-eight-none a b c d e f g h = simp sum-none
+module _ (targets senders types : List ℕ) (st : Stored) where
+  abbrev state : State
+  state = unpacked targets senders types st
 
--- the exits, as three numbers
-pub exits-are : (e : ℕ → Exit) (a b c : ℕ)
-    → a ≡ eightOf (e 0 .target) (e 0 .sender) (e 0 .typ) (e 1 .target) (e 1 .sender) (e 1 .typ) (e 2 .target) (e 2 .sender)
-    → b ≡ eightOf (e 2 .typ) (e 3 .target) (e 3 .sender) (e 3 .typ) (e 4 .target) (e 4 .sender) (e 4 .typ) (e 5 .target)
-    → c ≡ eightOf (e 5 .sender) (e 5 .typ) (e 6 .target) (e 6 .sender) (e 6 .typ) (e 7 .target) (e 7 .sender) (e 7 .typ)
-    → eqb (bitOr (bitOr a b) c) 0 ≡ allBelow (λ x. isBlankExit (e x)) mostExits
-unfolding allBelow
-exits-are e a b c p q r =
-    rw (
-      or-none (bitOr a b) c,
-      or-none a b,
-      p,
-      q,
-      r,
-      eight-none (e 0 .target) (e 0 .sender) (e 0 .typ) (e 1 .target) (e 1 .sender) (e 1 .typ) (e 2 .target) (e 2 .sender),
-      eight-none (e 2 .typ) (e 3 .target) (e 3 .sender) (e 3 .typ) (e 4 .target) (e 4 .sender) (e 4 .typ) (e 5 .target),
-      eight-none (e 5 .sender) (e 5 .typ) (e 6 .target) (e 6 .sender) (e 6 .typ) (e 7 .target) (e 7 .sender) (e 7 .typ),
-    )
-    (simp and-assoc)
+  -- exit x, of eight
+  exit-of : (x : ℕ) → x < 8 → exitAt state x ≡ cond (ltb x (st .exits)) (exitNo targets senders types (st .first + x)) blankExit
+  unfolding withExits exitsFrom
+  exit-of x l = in-places-at 8 blankExit (st .exits) (λ i. exitNo targets senders types (st .first + i)) x blankExit l
 
-blank-exits : (st : State) → isBlankState st ≡ true → st .exits ≡ 0
-unfolding isBlankState
+  -- one that the state has
+  pub has-exit : (n states x : ℕ) → x < 8 → x < st .exits
+      → exitValid n states state x ≡ (exitFits (st .kind) (exitNo targets senders types (st .first + x)) && exitReaches n states (exitNo targets senders types (st .first + x)))
+  unfolding exitValid withExits
+  has-exit n states x l h = rw (lt-ltb x (st .exits) h) (rw (exit-of x l, lt-ltb x (st .exits) h))
+
+  -- one that it has not is blank
+  pub no-exit : (n states x : ℕ) → x < 8 → st .exits ≤ x → exitValid n states state x ≡ true
+  unfolding exitValid withExits
+  no-exit n states x l h = rw (le-ltb x (st .exits) h) (rw (exit-of x l, le-ltb x (st .exits) h))
+
+-- a state without exits has none
+pub none-from : (targets senders types : List ℕ) (st : Stored) → st .exits ≡ 0 → blankExits ≡ exitsFrom targets senders types st
+unfolding exitsFrom inPlaces
+none-from targets senders types st e =
+    let f : ℕ → Exit = λ x. cond (ltb x (st .exits)) (exitNo targets senders types (st .first + x)) blankExit in
+    fill-start f blankExit 8 ∙ fill-rest f blankExit 8 0 (omega arith) (λ x l. rw (le-ltb x (st .exits) (omega arith)))
+
+blank-exits : (st : Stored) → isBlankState (withExits st []) ≡ true → st .exits ≡ 0
+unfolding isBlankState withExits
 blank-exits st h =
     let a = eqb (st .kind) 0 && eqb (st .exits) 0 in
     let b = a && eqb (st .sender) 0 in
@@ -90,30 +96,40 @@ blank-exits st h =
     eqb-true (st .exits) 0
     (and-both (eqb (st .kind) 0) (eqb (st .exits) 0) (and-both a (eqb (st .sender) 0) (and-both b (eqb (st .typ) 0) l .left) .left) .right)
 
--- an exit that the state has not is right exactly when it is blank
-exit-is : (n states : ℕ) (st : State) (x : ℕ) → st .exits ≡ 0 → isBlankExit (exitAt st x) ≡ exitValid n states st x
-unfolding exitValid
-exit-is n states st x e = rw (le-ltb x (st .exits) (omega arith))
+and-swap : (a b c : Bool) → ((a && b) && c) ≡ ((a && c) && b)
+and-swap false b c = refl
+and-swap true false false = refl
+and-swap true false true = refl
+and-swap true true false = refl
+and-swap true true true = refl
 
--- a state that a subject has
-pub there-is : (n states t : ℕ) (st : State) → t < states
-    → (stateFits st && stateReaches n states st && allBelow (exitValid n states st) mostExits) ≡ stateValid n states t st
-unfolding stateValid stateOwn
-there-is n states t st l = rw (lt-ltb t states l)
+-- the exits of a state are no matter to whether it is blank
+any-exits : (st : Stored) (es : List Exit) → isBlankState (withExits st es) ≡ isBlankState (withExits st [])
+unfolding isBlankState withExits
+any-exits st es = refl
 
--- past a subject's states a state is right exactly when it is empty
-empty-is : (n states t : ℕ) (st : State) → states ≤ t → isEmptyState st ≡ stateValid n states t st
-unfolding isEmptyState stateValid stateOwn
-empty-is n states t st l = rw (le-ltb t states l) (go (isBlankState st) refl)
-  where
-    go : (b : Bool) → isBlankState st ≡ b
-        → (isBlankState st && allBelow (λ x. isBlankExit (exitAt st x)) mostExits) ≡ (isBlankState st && allBelow (exitValid n states st) mostExits)
-    go false e = rw e
-    go true e = rw e (all-same _ _ mostExits (λ i k. exit-is n states st i (blank-exits st e)))
+module _ (targets senders types : List ℕ) (n states t before : ℕ) (st : Stored) where
+  -- a state that a subject has
+  there-is : t < states
+      → storedValid targets senders types n states before st ≡ (stateValid n states t (unpacked targets senders types st) && firstRight states t before (st .first))
+  unfolding storedValid stateValid stateOwn firstRight
+  there-is l =
+      let st' = unpacked targets senders types st in
+      rw (lt-ltb t states l) (and-swap (stateFits st' && stateReaches n states st') (eqb (st .first) before) (allBelow (exitValid n states st') 8))
 
-empty : (st : State) → isEmptyState st ≡ (isBlankState st && allBelow (λ x. isBlankExit (exitAt st x)) mostExits)
-unfolding isEmptyState
-empty st = refl
+  -- past a subject's states a place is right exactly when it is blank
+  empty-is : states ≤ t → isBlankStored st ≡ (stateValid n states t (unpacked targets senders types st) && firstRight states t before (st .first))
+  unfolding isBlankStored stateValid stateOwn firstRight
+  empty-is l = rw (le-ltb t states l) (go (isBlankState (withExits st [])) refl)
+    where
+      none : isBlankState (withExits st []) ≡ true → allBelow (exitValid n states (unpacked targets senders types st)) 8 ≡ true
+      none h = let e = blank-exits st h in all-by _ 8 (λ x k. no-exit targets senders types st n states x k (omega arith))
+
+      go : (b : Bool) → isBlankState (withExits st []) ≡ b
+          → (isBlankState (withExits st []) && eqb (st .first) 0)
+          ≡ ((isBlankState (unpacked targets senders types st) && allBelow (exitValid n states (unpacked targets senders types st)) 8) && eqb (st .first) 0)
+      go false e = rw (any-exits st (exitsFrom targets senders types st), e)
+      go true e = rw (any-exits st (exitsFrom targets senders types st), e, none e)
 
 -- the kind of the initial state matters only where there is such a state
 pub kind-free : (n s : ℕ) (sub : Subject) (a b : ℕ) → 32 ≤ sub .initial → subjectValid n s sub a ≡ subjectValid n s sub b
@@ -134,17 +150,45 @@ kind-free n s sub a b l = go (ltb s n) refl
 
 -- the kind of the initial state, read at a place that is always there
 pub kind-seen : (m : Model) (s : ℕ)
-    → subjectValid (m .n) s (subjectAt m s) (stateAt m (s * 32 + subjectAt m s .initial % 32) .kind) ≡ subjectRight m s
+    → subjectValid (m .n) s (subjectAt m s) (kindAt (m .states) (s * 32 + subjectAt m s .initial % 32)) ≡ subjectRight m s
 unfolding subjectRight
 kind-seen m s = go (ltb (subjectAt m s .initial) 32) refl
   where
     go : (b : Bool) → ltb (subjectAt m s .initial) 32 ≡ b
-        → subjectValid (m .n) s (subjectAt m s) (stateAt m (s * 32 + subjectAt m s .initial % 32) .kind)
+        → subjectValid (m .n) s (subjectAt m s) (kindAt (m .states) (s * 32 + subjectAt m s .initial % 32))
         ≡ subjectValid (m .n) s (subjectAt m s) (kindAt (m .states) (s * 32 + subjectAt m s .initial))
     go true e =
         let i : subjectAt m s .initial % 32 ≡ subjectAt m s .initial = omega (arith, ltb-true (subjectAt m s .initial) 32 e) in
         rw i
     go false e = kind-free (m .n) s (subjectAt m s) _ _ (ltb-false (subjectAt m s .initial) 32 e)
+
+-- ---- nothing but zeros from a place on
+
+pub none-turn : (l : List ℕ) (j : ℕ) → j < length l → noneAfter j l ≡ (eqb (getD l j 0) 0 && noneAfter (j + 1) l)
+unfolding noneAfter
+none-turn [] j h = absurd (not-suc-le-zero h)
+none-turn (b ∷ bs) zero h = refl
+none-turn (b ∷ bs) (suc j) h = let e : suc j + 1 ≡ suc (j + 1) = omega arith in rw e (none-turn bs j (le-of-suc-le-suc h))
+
+pub none-end : (l : List ℕ) (j : ℕ) → length l ≤ j → noneAfter j l ≡ true
+unfolding noneAfter
+none-end [] j h = refl
+none-end (b ∷ bs) zero h = absurd (not-suc-le-zero h)
+none-end (b ∷ bs) (suc j) h = none-end bs j (le-of-suc-le-suc h)
+
+pub none-at : (l : List ℕ) (k j : ℕ) → noneAfter k l ≡ true → k ≤ j → getD l j 0 ≡ 0
+unfolding noneAfter
+none-at [] k j h g = refl
+none-at (b ∷ bs) zero zero h g = eqb-true b 0 (and-both (eqb b 0) (noneAfter zero bs) h .left)
+none-at (b ∷ bs) zero (suc j) h g = none-at bs zero j (and-both (eqb b 0) (noneAfter zero bs) h .right) (omega arith)
+none-at (b ∷ bs) (suc k) zero h g = absurd (not-suc-le-zero g)
+none-at (b ∷ bs) (suc k) (suc j) h g = none-at bs k j h (le-of-suc-le-suc g)
+
+pub none-by : (l : List ℕ) (k : ℕ) → ((j : ℕ) → k ≤ j → getD l j 0 ≡ 0) → noneAfter k l ≡ true
+unfolding noneAfter
+none-by [] k h = refl
+none-by (b ∷ bs) zero h = and-true (eq-eqb b 0 (h zero (omega arith))) (none-by bs zero (λ j g. h (suc j) (omega arith)))
+none-by (b ∷ bs) (suc k) h = none-by bs k (λ j g. h (suc j) (omega arith))
 
 -- ---- the places of subject s
 
@@ -167,7 +211,8 @@ few-states n s sub kind h =
         omega (arith, e)
 
 place-is : (m : Model) (s t : ℕ) → t < 32
-    → stateRight m (s * 32 + t) ≡ stateValid (m .n) (subjectAt m s .states) t (stateAt m (s * 32 + t))
+    → stateRight m (s * 32 + t)
+    ≡ (stateValid (m .n) (subjectAt m s .states) t (stateAt m (s * 32 + t)) && firstRight (subjectAt m s .states) t (exitsBefore m (s * 32 + t)) (storedAt m (s * 32 + t) .first))
 unfolding stateRight
 place-is m s t l =
     let a : (s * 32 + t) / 32 ≡ s = omega arith in
@@ -175,9 +220,11 @@ place-is m s t l =
     rw (a, b)
 
 pub there-right : (m : Model) (s t : ℕ) → t < 32 → t < subjectAt m s .states
-    → (stateFits (stateAt m (s * 32 + t)) && stateReaches (m .n) (subjectAt m s .states) (stateAt m (s * 32 + t)) && allBelow (exitValid (m .n) (subjectAt m s .states) (stateAt m (s * 32 + t))) mostExits)
-    ≡ stateRight m (s * 32 + t)
-there-right m s t l k = there-is (m .n) (subjectAt m s .states) t (stateAt m (s * 32 + t)) k ∙ sym (place-is m s t l)
+    → storedValid (m .targets) (m .senders) (m .types) (m .n) (subjectAt m s .states) (exitsBefore m (s * 32 + t)) (storedAt m (s * 32 + t)) ≡ stateRight m (s * 32 + t)
+there-right m s t l k = there-is (m .targets) (m .senders) (m .types) (m .n) (subjectAt m s .states) t _ (storedAt m (s * 32 + t)) k ∙ sym (place-is m s t l)
+
+pub gone-right : (m : Model) (s t : ℕ) → t < 32 → subjectAt m s .states ≤ t → isBlankStored (storedAt m (s * 32 + t)) ≡ stateRight m (s * 32 + t)
+gone-right m s t l k = empty-is (m .targets) (m .senders) (m .types) (m .n) (subjectAt m s .states) t _ (storedAt m (s * 32 + t)) k ∙ sym (place-is m s t l)
 
 -- one more place, after a
 pub next : (p : ℕ → Bool) (a t : ℕ) → allBelow p (a + (t + 1)) ≡ (allBelow p (a + t) && p (a + t))
@@ -192,31 +239,24 @@ next-sum f a t x h =
     rw (e, sum-more f (a + t), h)
 
 -- one more place that has no state
-pub blank-turn : (m : Model) (s t own others w v : ℕ) → t < 32 → subjectAt m s .states ≤ t
-    → allBelow (stateRight m) (s * 32 + t) ≡ (eqb own 0 && eqb others 0)
-    → eqb w 0 ≡ isBlankState (stateAt m (s * 32 + t))
-    → eqb v 0 ≡ allBelow (λ x. isBlankExit (exitAt (stateAt m (s * 32 + t)) x)) mostExits
-    → allBelow (stateRight m) (s * 32 + (t + 1)) ≡ (eqb (bitOr own w) 0 && eqb (bitOr others v) 0)
-blank-turn m s t own others w v l g h p q =
-    rw (next (stateRight m) (s * 32) t, h, place-is m s t l, ← empty-is (m .n) (subjectAt m s .states) t (stateAt m (s * 32 + t)) g, empty (stateAt m (s * 32 + t)), ← p, ← q, or-none own w, or-none others v)
-    (swap (eqb own 0) (eqb others 0) (eqb w 0) (eqb v 0))
-  where
-    swap : (a b c d : Bool) → ((a && b) && (c && d)) ≡ ((a && c) && (b && d))
-    swap false b c d = refl
-    swap true false true d = refl
-    swap true false false d = refl
-    swap true true c d = refl
+pub blank-turn : (m : Model) (s t own w : ℕ) → t < 32 → subjectAt m s .states ≤ t
+    → allBelow (stateRight m) (s * 32 + t) ≡ eqb own 0
+    → eqb w 0 ≡ isBlankStored (storedAt m (s * 32 + t))
+    → allBelow (stateRight m) (s * 32 + (t + 1)) ≡ eqb (bitOr own w) 0
+blank-turn m s t own w l g h p =
+    rw (next (stateRight m) (s * 32) t, h, ← gone-right m s t l g, ← p, or-none own w)
 
 -- its exits count nothing
 pub blank-sum : (m : Model) (s t exits : ℕ) → t < 32 → subjectAt m s .states ≤ t
-    → (allBelow (stateRight m) (s * 32 + t) ≡ true → exits ≡ sumBelow (λ q. stateAt m q .exits) (s * 32 + t))
-    → allBelow (stateRight m) (s * 32 + (t + 1)) ≡ true → exits ≡ sumBelow (λ q. stateAt m q .exits) (s * 32 + (t + 1))
+    → (allBelow (stateRight m) (s * 32 + t) ≡ true → exits ≡ exitsBefore m (s * 32 + t))
+    → allBelow (stateRight m) (s * 32 + (t + 1)) ≡ true → exits ≡ exitsBefore m (s * 32 + (t + 1))
+unfolding isBlankStored withExits
 blank-sum m s t exits l g f h =
     let b = and-both (allBelow (stateRight m) (s * 32 + t)) (stateRight m (s * 32 + t)) (sym (next (stateRight m) (s * 32) t) ∙ h) in
-    let st = stateAt m (s * 32 + t) in
-    let none = blank-exits st (and-both (isBlankState st) (allBelow (λ x. isBlankExit (exitAt st x)) mostExits) (sym (empty st) ∙ empty-is (m .n) (subjectAt m s .states) t st g ∙ sym (place-is m s t l) ∙ b .right) .left) in
-    let g = next-sum (λ q. stateAt m q .exits) (s * 32) t exits (f (b .left)) in
-    omega (arith, g, none)
+    let st = storedAt m (s * 32 + t) in
+    let none = blank-exits st (and-both (isBlankState (withExits st [])) (eqb (st .first) 0) (gone-right m s t l g ∙ b .right) .left) in
+    let k = next-sum (λ q. stateAt m q .exits) (s * 32) t exits (f (b .left)) in
+    omega (arith, k, none)
 
 -- ---- a model with a fault
 
@@ -237,8 +277,17 @@ no-places m p l e =
 pub no-place : (m : Model) (p : ℕ) → p < 512 → stateRight m p ≡ false → valid m ≡ false
 no-place m p l e = no-places m 512 (omega arith) (all-stop (stateRight m) p 512 l e)
 
+pub too-many : (m : Model) → 1024 < exitsBefore m 512 → valid m ≡ false
+unfolding valid exitsInAll
+too-many m h =
+    rw (and-false ((within 1 (m .n) 16 && startRight (m .n) (m .start)) && allBelow (subjectRight m) 16 && allBelow (stateRight m) 512) (leb (exitsBefore m 512) 1024) off)
+  where
+    off : leb (exitsBefore m 512) 1024 ≡ false
+    off = is-false (leb (exitsBefore m 512) 1024) (λ (e : leb (exitsBefore m 512) 1024 ≡ true). omega (arith, h, leb-true (exitsBefore m 512) 1024 e))
+
 -- ---- a model with none
 pub all-right : (m : Model) (exits : ℕ) → (within 1 (m .n) 16 && startRight (m .n) (m .start)) ≡ true
-    → allBelow (subjectRight m) 16 ≡ true → allBelow (stateRight m) 512 ≡ true → exits ≡ sumBelow (λ q. stateAt m q .exits) 512 → leb exits 1024 ≡ valid m
-unfolding valid exitsInAll
-all-right m exits h a b e = rw (h, a, b, e)
+    → allBelow (subjectRight m) 16 ≡ true → allBelow (stateRight m) 512 ≡ true → exits ≡ exitsBefore m 512 → exits ≤ 1024
+    → ((noneAfter exits (m .targets) && noneAfter exits (m .senders)) && noneAfter exits (m .types)) ≡ valid m
+unfolding valid exitsInAll noMoreExits
+all-right m exits h a b e l = rw (h, a, b, ← e, le-leb exits 1024 l)

@@ -15,9 +15,9 @@ use Rattle.sets.proofs.Bytes.{byte-at, bytes-by}
 use Rattle.sets.proofs.Tests.{choose}
 use Rattle.blocks.proofs.BlockLaws.{record-bytes}
 use Rattle.blocks.specs.Blocks.{recordOf, recordFrom, firstBlock}
-use Rattle.model.specs.Records.{blankState, stateKey, stateOf}
-use Rattle.model.specs.Decoded.{subjectsIn, rowsIn, subjectIn, statesIn, hasState, exitsIn, stateFrom, stateIn, stateNamed, exitsNamed, exitsNamedIn}
-use Rattle.model.specs.declared.State.{State}
+use Rattle.model.specs.Records.{blankStored, stateKey, storedOf}
+use Rattle.model.specs.Decoded.{subjectsIn, rowsIn, subjectIn, statesIn, hasState, exitsIn, storedIn, stateNamed, exitsNamed, exitsNamedIn}
+use Rattle.model.specs.declared.Stored.{Stored}
 use Rattle.model.specs.declared.Subject.{Subject}
 
 -- ---- counts and their sums
@@ -61,7 +61,7 @@ next-turn f p x y r e g h = h ∙ go (eqb (p % 32) 31) refl
 
 -- ---- the parts of the model
 
-exits-by : (b : Bool) (x y : State) → cond b x y .exits ≡ cond b (x .exits) (y .exits)
+exits-by : (b : Bool) (x y : Stored) → cond b x y .exits ≡ cond b (x .exits) (y .exits)
 exits-by true x y = refl
 exits-by false x y = refl
 
@@ -72,19 +72,19 @@ module _ (file : List ℕ) where
   states-at l s d e h = rw e (ap (λ (x : Subject). x .states) (table-at (subjectIn file) 16 s d h))
 
   -- how many exits the state at place p has
-  pub exits-are : (p : ℕ) → stateIn file p .exits ≡ exitsIn file p
-  unfolding stateIn exitsIn stateFrom stateOf
+  pub exits-are : (p : ℕ) → storedIn file p .exits ≡ exitsIn file p
+  unfolding storedIn exitsIn storedOf
   exits-are p = exits-by (hasState file p) _ _
 
-  pub exits-at : (l : List State) (p : ℕ) (d : State) → l ≡ table (stateIn file) 512 → p < 512 → getD l p d .exits ≡ exitsIn file p
-  exits-at l p d e h = rw e (ap (λ (x : State). x .exits) (table-at (stateIn file) 512 p d h) ∙ exits-are p)
+  pub exits-at : (l : List Stored) (p : ℕ) (d : Stored) → l ≡ table (storedIn file) 512 → p < 512 → getD l p d .exits ≡ exitsIn file p
+  exits-at l p d e h = rw e (ap (λ (x : Stored). x .exits) (table-at (storedIn file) 512 p d h) ∙ exits-are p)
 
   -- the state at place p, from how many its subject has, where those start and where its exits do
   module _ (p own start first : ℕ) (o : own ≡ statesIn file (p / 32)) (s : start ≡ sumBelow (statesIn file) (p / 32)) (f : first ≡ firstBlock file 2) where
-    pub state-is : (next place : ℕ) → next ≡ firstBlock file 3 → place ≡ sumBelow (exitsIn file) p
-        → cond (ltb (p % 32) own) (stateFrom file first (start + p % 32) next place) blankState ≡ stateIn file p
-    unfolding stateIn
-    state-is next place n e = rw (o, s, f, n, e)
+    pub state-is : (place : ℕ) → place ≡ sumBelow (exitsIn file) p
+        → cond (ltb (p % 32) own) (storedOf (recordFrom file first (start + p % 32)) (place % 65536)) blankStored ≡ storedIn file p
+    unfolding storedIn
+    state-is place e = rw (o, s, f, e)
 
     pub named-is : cond (ltb (p % 32) own) (eqb (stateKey (recordFrom file first (start + p % 32))) (p % 32 + 256 * (p / 32))) true ≡ stateNamed file p
     unfolding stateNamed

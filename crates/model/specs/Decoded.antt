@@ -8,12 +8,11 @@ use Rattle.sets.specs.Below.{allBelow, sumBelow, countBelow, table}
 use Rattle.sets.specs.Groups.{placeIn, inPlaces}
 use Rattle.sets.specs.Tests.{wordAt}
 use Rattle.blocks.specs.Blocks.{firstBlock, recordOf, recordFrom, recordNo, countOf}
-use Rattle.model.specs.Sizes.{mostSubjects, mostStates, statePlaces, mostExits, mostRows}
-use Rattle.model.specs.Records.{blankExit, blankRow, blankState, blankSubject, stateOf, exitOf, rowOf, stateKey, fullKey}
-use Rattle.model.specs.declared.Exit.{Exit}
+use Rattle.model.specs.Sizes.{mostSubjects, mostStates, statePlaces, mostExitsInAll, mostRows}
+use Rattle.model.specs.Records.{blankRow, blankStored, blankSubject, storedOf, rowOf, stateKey, fullKey}
 use Rattle.model.specs.declared.Model.{Model}
 use Rattle.model.specs.declared.Row.{Row}
-use Rattle.model.specs.declared.State.{State}
+use Rattle.model.specs.declared.Stored.{Stored}
 use Rattle.model.specs.declared.Subject.{Subject}
 
 -- ---- subjects and their limit rows
@@ -67,25 +66,26 @@ stateRecordIn file p = recordNo file 2 (placeIn (statesIn file) (p / mostStates)
 unfoldable pub exitsIn : List ℕ → ℕ → ℕ
 exitsIn file p = cond (hasState file p) (getD (stateRecordIn file p) 3 0) 0
 
--- so many exits, from the record with number `place` on, counted from block `first`
-unfoldable pub exitsFrom : List ℕ → ℕ → ℕ → ℕ → List Exit
-exitsFrom file first place exits = inPlaces mostExits blankExit exits (λ x. exitOf (recordFrom file first (place + x)))
+-- the state at place p: its exits begin after those of the states before it (modulo 2^16, which a model that is too large exceeds)
+unfoldable pub storedIn : List ℕ → ℕ → Stored
+storedIn file p = cond (hasState file p) (storedOf (stateRecordIn file p) (sumBelow (exitsIn file) p % 65536)) blankStored
 
--- the state of record j, with its exits from the record with number `place` on
-unfoldable pub stateFrom : List ℕ → ℕ → ℕ → ℕ → ℕ → State
-stateFrom file first j next place =
-    stateOf (recordFrom file first j) (exitsFrom file next place (getD (recordFrom file first j) 3 0))
+-- byte f of the exit records in order, as far as the model has room
+unfoldable pub exitBytes : List ℕ → ℕ → List ℕ
+exitBytes file f = inPlaces mostExitsInAll 0 (countOf file 3) (λ j. getD (recordNo file 3 j) f 0)
 
--- the state at place p; its exits come after those of the states before it
-unfoldable pub stateIn : List ℕ → ℕ → State
-stateIn file p =
-    cond (hasState file p)
-    (stateFrom file (firstBlock file 2) (placeIn (statesIn file) (p / mostStates) (p % mostStates)) (firstBlock file 3) (sumBelow (exitsIn file) p))
-    blankState
-
+-- exit record: 3 target; 4 sender; 5 type
 unfoldable pub modelOf : List ℕ → Model
 modelOf file =
-    record { n = subjectsIn file; start = startIn file; subjects = table (subjectIn file) mostSubjects; states = table (stateIn file) statePlaces }
+    record {
+      n = subjectsIn file;
+      start = startIn file;
+      subjects = table (subjectIn file) mostSubjects;
+      states = table (storedIn file) statePlaces;
+      targets = exitBytes file 3;
+      senders = exitBytes file 4;
+      types = exitBytes file 5;
+    }
 
 -- ---- 5: a state or exit missing or too many, a limit's owner that does not exist, more than 8 rows
 

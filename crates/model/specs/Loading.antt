@@ -7,9 +7,9 @@ use Rattle.sets.specs.Below.{firstNot}
 use Rattle.sets.specs.declared.Found.{Found}
 use Rattle.sets.specs.declared.Found.the-variants.{At, Nothing}
 use Rattle.blocks.specs.Blocks.{blocks, blockOf, checkRight}
-use Rattle.model.specs.Sizes.{mostSubjects, statePlaces}
+use Rattle.model.specs.Sizes.{mostSubjects, statePlaces, mostExitsInAll}
 use Rattle.model.specs.Decoded.{modelOf, inPlace}
-use Rattle.model.specs.Records.{blankState, blankSubject}
+use Rattle.model.specs.Records.{blankStored, blankSubject}
 use Rattle.model.specs.Stages.{lengthRight, blockRight, recordsRight}
 use Rattle.model.specs.Valid.{valid}
 use Rattle.model.specs.declared.Loaded.{Loaded}
@@ -19,7 +19,16 @@ use Rattle.blocks.specs.declared.Verdict.the-variants.{Good, Length, Check, Blo
 
 -- no subjects
 unfoldable pub emptyModel : Model
-emptyModel = record { n = 0; start = 0; subjects = replicate mostSubjects blankSubject; states = replicate statePlaces blankState }
+emptyModel =
+    record {
+      n = 0;
+      start = 0;
+      subjects = replicate mostSubjects blankSubject;
+      states = replicate statePlaces blankStored;
+      targets = replicate mostExitsInAll 0;
+      senders = replicate mostExitsInAll 0;
+      types = replicate mostExitsInAll 0;
+    }
 
 -- a file is refused: the empty model, and why
 abbrev pub refused : Verdict → Loaded

@@ -9,6 +9,7 @@ use Rattle.model.specs.Sizes.{mostExits, mostRows}
 use Rattle.model.specs.declared.Exit.{Exit}
 use Rattle.model.specs.declared.Row.{Row}
 use Rattle.model.specs.declared.State.{State}
+use Rattle.model.specs.declared.Stored.{Stored}
 use Rattle.model.specs.declared.Subject.{Subject}
 
 -- ---- nothing there
@@ -25,8 +26,8 @@ blankRow = record { sender = 0; typ = 0; limit = 0 }
 abbrev pub blankRows : List Row
 blankRows = replicate mostRows blankRow
 
-abbrev pub blankState : State
-blankState = record { kind = 0; exits = 0; sender = 0; typ = 0; after = 0; timeout = 0; cancel = 0; receivers = 0; exit = blankExits }
+abbrev pub blankStored : Stored
+blankStored = record { kind = 0; exits = 0; sender = 0; typ = 0; after = 0; timeout = 0; cancel = 0; receivers = 0; first = 0 }
 
 abbrev pub blankSubject : Subject
 blankSubject = record { states = 0; initial = 0; rows = 0; row = blankRows }
@@ -45,6 +46,36 @@ stateOf r es =
       timeout = getD r 8 0;
       cancel = getD r 9 0;
       receivers = wordAt r 10;
+      exit = es;
+    }
+
+-- the same as a model keeps it: its exits begin at `first`
+unfoldable pub storedOf : List ℕ → ℕ → Stored
+storedOf r first =
+    record {
+      kind = getD r 2 0;
+      exits = getD r 3 0;
+      sender = getD r 4 0;
+      typ = getD r 5 0;
+      after = wordAt r 6;
+      timeout = getD r 8 0;
+      cancel = getD r 9 0;
+      receivers = wordAt r 10;
+      first = first;
+    }
+
+-- a state with the given exits
+unfoldable pub withExits : Stored → List Exit → State
+withExits st es =
+    record {
+      kind = st .kind;
+      exits = st .exits;
+      sender = st .sender;
+      typ = st .typ;
+      after = st .after;
+      timeout = st .timeout;
+      cancel = st .cancel;
+      receivers = st .receivers;
       exit = es;
     }
 

@@ -2,20 +2,19 @@
 ghost use mathlib.Core.Path.{_≡_};
 ghost use mathlib.Core.Bool.{cond, true};
 ghost use lib.ListN.{getD};
-ghost use Prim.Native.Nat.{_+_, _≤_, _<_};
+ghost use Prim.Native.Nat.{_+_, _%_, _≤_, _<_};
 ghost use lib.Dec.{ltb, leb, eqb};
 ghost use Rattle.sets.specs.Below.{allBelow, sumBelow, table};
 ghost use Rattle.blocks.specs.Blocks.{firstBlock, countOf, recordFrom};
 ghost use Rattle.model.specs.Sizes.{mostSubjects, statePlaces, mostRows};
-ghost use Rattle.model.specs.Records.{blankExit, blankRow, blankState, blankSubject, stateKey, exitOf, rowOf};
-ghost use Rattle.model.specs.Decoded.{subjectsIn, limitsIn, rowsIn, rowsFrom, subjectIn, exitsFrom, stateIn, modelOf, exitsNamed, ownerThere, statesInPlace, exitsInPlace, limitsInPlace, inPlace, stateFrom};
-use super::Exit;
+ghost use Rattle.model.specs.Records.{blankRow, blankStored, blankSubject, stateKey, storedOf, rowOf};
+ghost use Rattle.model.specs.Decoded.{subjectsIn, limitsIn, rowsIn, rowsFrom, subjectIn, storedIn, exitBytes, modelOf, exitsNamed, ownerThere, statesInPlace, exitsInPlace, limitsInPlace, inPlace};
 use super::Model;
 use super::Row;
-use super::State;
+use super::Stored;
 use super::Subject;
 use super::records;
-use super::sizes::MOST_EXITS;
+use super::sizes::MOST_EXITS_IN_ALL;
 use super::sizes::MOST_ROWS;
 use super::sizes::MOST_STATES;
 use super::sizes::MOST_SUBJECTS;
@@ -143,40 +142,11 @@ fn subjects(file: &[u8]) -> [Subject; MOST_SUBJECTS]
 
 // ---- states and their exits
 
-// Exit x of those that start at the given place; blank past the last.
-fn exit_from(file: &[u8], first: usize, place: usize, exits: u8, x: usize) -> Exit
-    requires { ⌜ (place ≤ 1000000) × (x ≤ 65536) ⌝ }
-    ensures { λ r. ⌜ r ≡ cond (ltb x exits) (exitOf (recordFrom (now (file .entry)) first (place + x))) blankExit ⌝ }
-{
-    if x < exits as usize {
-        return records::exit_of(record_from(file, first, place + x));
-    }
-    Exit {
-        target: 0,
-        sender: 0,
-        typ: 0,
-    }
-}
-
-// The exits that start at the given place.
-fn exits_from(file: &[u8], first: usize, place: usize, exits: u8) -> [Exit; MOST_EXITS]
-    requires { ⌜ place ≤ 1000000 ⌝ }
-    ensures { λ r. ⌜ r ≡ exitsFrom (now (file .entry)) first place exits ⌝ }
-{
-    let mut exit = records::no_exits();
-    let mut x = 0;
-    while x < MOST_EXITS {
-        exit[x] = exit_from(file, first, place, exits, x);
-        x += 1;
-    }
-    exit
-}
-
 // An unused state.
-pub(crate) fn no_state() -> State
-    ensures { λ r. ⌜ r ≡ blankState ⌝ }
+pub(crate) fn no_state() -> Stored
+    ensures { λ r. ⌜ r ≡ blankStored ⌝ }
 {
-    State {
+    Stored {
         kind: 0,
         exits: 0,
         sender: 0,
@@ -185,27 +155,16 @@ pub(crate) fn no_state() -> State
         timeout: 0,
         cancel: 0,
         receivers: 0,
-        exit: records::no_exits(),
+        first: 0,
     }
 }
 
-// The state of record j, with the exits that start at the given place.
-fn state_from(file: &[u8], first: usize, j: usize, next: usize, place: usize) -> State
-    requires { ⌜ place ≤ 1000000 ⌝ }
-    ensures { λ r. ⌜ r ≡ stateFrom (now (file .entry)) first j next place ⌝ }
-{
-    let r = record_from(file, first, j);
-    let exits = exits_from(file, next, place, byte(r, 3));
-    records::state_of(r, exits)
-}
-
-// The same where the subject has the state, else an unused state.
-fn state_or_none(file: &[u8], has: bool, first: usize, j: usize, next: usize, place: usize) -> State
-    requires { ⌜ place ≤ 1000000 ⌝ }
-    ensures { λ r. ⌜ r ≡ cond has (stateFrom (now (file .entry)) first j next place) blankState ⌝ }
+// The state of record j, whose exits begin at the given place, where the subject has it; else an unused state.
+fn state_or_none(file: &[u8], has: bool, first: usize, j: usize, place: usize) -> Stored
+    ensures { λ r. ⌜ r ≡ cond has (storedOf (recordFrom (now (file .entry)) first j) (place % 65536)) blankStored ⌝ }
 {
     if has {
-        return state_from(file, first, j, next, place);
+        return records::stored_of(record_from(file, first, j), (place % 65536) as u16);
     }
     no_state()
 }
@@ -222,12 +181,11 @@ fn next_start(start: usize, t: usize, states: u8) -> usize
 }
 
 // All states, of the subjects of the file.
-fn states(file: &[u8], subjects: [Subject; MOST_SUBJECTS]) -> [State; STATE_PLACES]
+fn states(file: &[u8], subjects: [Subject; MOST_SUBJECTS]) -> [Stored; STATE_PLACES]
     requires { ⌜ subjects ≡ table (subjectIn (now file)) mostSubjects ⌝ }
-    ensures { λ r. ⌜ r ≡ table (stateIn (now (file .entry))) statePlaces ⌝ }
+    ensures { λ r. ⌜ r ≡ table (storedIn (now (file .entry))) statePlaces ⌝ }
 {
     let first = blocks::first_block(file, 2);
-    let next = blocks::first_block(file, 3);
     let none = no_state();
     let mut states = [none; STATE_PLACES];
     let mut start: usize = 0;
@@ -237,13 +195,31 @@ fn states(file: &[u8], subjects: [Subject; MOST_SUBJECTS]) -> [State; STATE_PLAC
         let t = p % MOST_STATES;
         let s = p / MOST_STATES;
         let own = subjects[s].states;
-        let st = state_or_none(file, t < own as usize, first, start + t, next, place);
+        let st = state_or_none(file, t < own as usize, first, start + t, place);
         place += st.exits as usize;
         states[p] = st;
         start = next_start(start, t, own);
         p += 1;
     }
     states
+}
+
+// Byte f of the exit records in order, as far as the model has room.
+fn exit_bytes(file: &[u8], f: usize) -> [u8; MOST_EXITS_IN_ALL]
+    ensures { λ r. ⌜ r ≡ exitBytes (now (file .entry)) f ⌝ }
+{
+    let first = blocks::first_block(file, 3);
+    let count = blocks::count_of(file, 3);
+    let mut bytes = [0; MOST_EXITS_IN_ALL];
+    let mut j: usize = 0;
+    while j < MOST_EXITS_IN_ALL {
+        if count <= j {
+            return bytes;
+        }
+        bytes[j] = byte(record_from(file, first, j), f);
+        j += 1;
+    }
+    bytes
 }
 
 // The model that the file's records say.
@@ -253,11 +229,17 @@ pub(crate) fn model(file: &[u8]) -> Model
     let head = record(file, 0, 0);
     let subjects = subjects(file);
     let states = states(file, subjects);
+    let targets = exit_bytes(file, 3);
+    let senders = exit_bytes(file, 4);
+    let types = exit_bytes(file, 5);
     Model {
         n: byte(head, 0),
         start: sets::word(byte(head, 1), byte(head, 2)),
         subjects,
         states,
+        targets,
+        senders,
+        types,
     }
 }
 
@@ -311,8 +293,8 @@ fn exits_named(file: &[u8], first: usize, place: usize, exits: u8, key: u32) -> 
 }
 
 // The exit records are those of the states' exits, in order, and no more.
-fn exits_in_place(file: &[u8], states: [State; STATE_PLACES]) -> bool
-    requires { ⌜ states ≡ table (stateIn (now file)) statePlaces ⌝ }
+fn exits_in_place(file: &[u8], states: [Stored; STATE_PLACES]) -> bool
+    requires { ⌜ states ≡ table (storedIn (now file)) statePlaces ⌝ }
     ensures { λ r. ⌜ r ≡ exitsInPlace (now (file .entry)) ⌝ }
 {
     let first = blocks::first_block(file, 3);

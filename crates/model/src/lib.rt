@@ -14,11 +14,13 @@ pub use blocks::record;
 pub use blocks::refusal;
 pub use loading::load;
 pub use sizes::MOST_EXITS;
+pub use sizes::MOST_EXITS_IN_ALL;
 pub use sizes::MOST_ROWS;
 pub use sizes::MOST_STATES;
 pub use sizes::MOST_SUBJECTS;
 pub use sizes::STATE_PLACES;
 pub use valid::is_valid;
+pub use valid::states;
 pub use valid::view;
 
 // An exit of a state: where it leads; of a receive the sender and the type, of a send the type.
@@ -35,7 +37,7 @@ pub struct Row {
     pub limit: u8,
 }
 
-// A state: its kind, the number of its exits and its other fields, and the exits.
+// A state with its exits: its kind, how many exits it has, its other fields, and the exits.
 pub struct State {
     pub kind: u8,
     pub exits: u8,
@@ -56,12 +58,29 @@ pub struct Subject {
     pub row: [Row; MOST_ROWS],
 }
 
-// A model of n subjects: state t of subject s is at place s * MOST_STATES + t. Unused room is zero.
+// A state as a model keeps it: its fields, and where its exits begin among those of the model.
+pub struct Stored {
+    pub kind: u8,
+    pub exits: u8,
+    pub sender: u8,
+    pub typ: u8,
+    pub after: u16,
+    pub timeout: u8,
+    pub cancel: u8,
+    pub receivers: u16,
+    pub first: u16,
+}
+
+// A model of n subjects: state t of subject s is at place s * MOST_STATES + t. The exits of all states stand in one line, their
+// targets, senders and types each for itself. Unused room is zero.
 pub struct Model {
     pub n: u8,
     pub start: u16,
     pub subjects: [Subject; MOST_SUBJECTS],
-    pub states: [State; STATE_PLACES],
+    pub states: [Stored; STATE_PLACES],
+    pub targets: [u8; MOST_EXITS_IN_ALL],
+    pub senders: [u8; MOST_EXITS_IN_ALL],
+    pub types: [u8; MOST_EXITS_IN_ALL],
 }
 
 // What the kind of a state allows.

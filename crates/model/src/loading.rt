@@ -4,6 +4,7 @@ ghost use Rattle.model.specs.Loading.{emptyModel, refused, acrossOr, loa
 use super::Loaded;
 use super::Model;
 use super::decoded;
+use super::sizes::MOST_EXITS_IN_ALL;
 use super::sizes::MOST_SUBJECTS;
 use super::sizes::STATE_PLACES;
 use super::stages;
@@ -22,6 +23,9 @@ fn empty() -> Model
         start: 0,
         subjects: [subject; MOST_SUBJECTS],
         states: [state; STATE_PLACES],
+        targets: [0; MOST_EXITS_IN_ALL],
+        senders: [0; MOST_EXITS_IN_ALL],
+        types: [0; MOST_EXITS_IN_ALL],
     }
 }
 

@@ -1,9 +1,10 @@
 // What a record says, and its place in the order.
 ghost use mathlib.Core.Path.{_≡_};
-ghost use Rattle.model.specs.Records.{blankExits, blankRows, stateOf, exitOf, rowOf, stateKey, fullKey, orderOf};
+ghost use Rattle.model.specs.Records.{blankExits, blankRows, stateOf, storedOf, exitOf, rowOf, stateKey, fullKey, orderOf};
 use super::Exit;
 use super::Row;
 use super::State;
+use super::Stored;
 use super::sizes::MOST_EXITS;
 use super::sizes::MOST_ROWS;
 use sets::byte;
@@ -47,6 +48,23 @@ pub(crate) fn state_of(r: &[u8], exit: [Exit; MOST_EXITS]) -> State
         cancel: byte(r, 9),
         receivers: word(byte(r, 10), byte(r, 11)),
         exit,
+    }
+}
+
+// The state of a state record as a model keeps it.
+pub(crate) fn stored_of(r: &[u8], first: u16) -> Stored
+    ensures { λ s. ⌜ s ≡ storedOf (now (r .entry)) first ⌝ }
+{
+    Stored {
+        kind: byte(r, 2),
+        exits: byte(r, 3),
+        sender: byte(r, 4),
+        typ: byte(r, 5),
+        after: word(byte(r, 6), byte(r, 7)),
+        timeout: byte(r, 8),
+        cancel: byte(r, 9),
+        receivers: word(byte(r, 10), byte(r, 11)),
+        first,
     }
 }
 

@@ -10,6 +10,6 @@ pub const STATE_PLACES: usize = 512;
 
 pub const MOST_EXITS: usize = 8;
 
-pub(crate) const MOST_EXITS_IN_ALL: usize = 1024;
+pub const MOST_EXITS_IN_ALL: usize = 1024;
 
 pub const MOST_ROWS: usize = 8;

@@ -1,56 +1,129 @@
 // Whether a model is valid: every rule kept, all other room zero.
 ghost use mathlib.Core.Path.{_≡_};
-ghost use mathlib.Core.Bool.{_&&_};
-ghost use Prim.Native.Nat.{_<_, _+_, _*_};
+ghost use Prim.Native.Nat.{_<_, _≤_};
 ghost use lib.Dec.{eqb};
 ghost use Rattle.sets.specs.Below.{allBelow};
-ghost use Rattle.model.specs.Sizes.{mostExits, mostRows};
-ghost use Rattle.model.specs.Rules.{stateFits, stateReaches};
-ghost use Rattle.model.specs.Valid.{exitAt, isBlankExit, isBlankState, exitValid, rowKey, rowAscends, rowValid, subjectOwn, subjectValid, startRight, valid};
-ghost use Rattle.model.specs.Views.{viewOf};
+ghost use Rattle.model.specs.Sizes.{mostExits, mostExitsInAll, mostRows};
+ghost use Rattle.model.specs.Records.{withExits};
+ghost use Rattle.model.specs.Valid.{exitNo, exitsFrom, unpacked, exitValid, storedValid, isBlankStored, noneAfter, rowKey, rowAscends, rowValid, subjectOwn, subjectValid, startRight, valid};
+ghost use Rattle.model.specs.Views.{viewOf, statesOf};
+use super::Exit;
 use super::Model;
 use super::Row;
 use super::Seen;
 use super::State;
+use super::Stored;
 use super::Subject;
+use super::records;
 use super::rules;
 use super::sizes::MOST_EXITS;
 use super::sizes::MOST_EXITS_IN_ALL;
 use super::sizes::MOST_ROWS;
 use super::sizes::MOST_STATES;
 use super::sizes::MOST_SUBJECTS;
+use super::sizes::STATE_PLACES;
 use sets::both;
+use sets::byte;
 
-// Exit x of a state: right if the state has it, else blank.
-fn exit_valid(n: u8, states: u8, st: State, x: usize) -> bool
-    requires { ⌜ x < mostExits ⌝ }
-    ensures { λ r. ⌜ r ≡ exitValid n states st x ⌝ }
+// Exit j of those of a model; blank past the last place.
+fn exit_at<'a>(targets: &'a [u8], senders: &'a [u8], types: &'a [u8], j: usize) -> Exit
+    ensures { λ r. ⌜ r ≡ exitNo (now (targets .entry)) (now (senders .entry)) (now (types .entry)) j ⌝ }
 {
-    let e = st.exit[x];
-    if x < st.exits as usize {
-        return both(
-            rules::exit_fits(st.kind, e),
-            rules::exit_reaches(n, states, e),
-        );
+    Exit {
+        target: byte(targets, j),
+        sender: byte(senders, j),
+        typ: byte(types, j),
     }
-    both(both(e.target == 0, e.sender == 0), e.typ == 0)
 }
 
-// A state that is there, of a subject with so many states, with its exits.
-fn state_valid(n: u8, states: u8, st: State) -> bool
-    ensures { λ r. ⌜ r ≡ (stateFits st && stateReaches n states st && allBelow (exitValid n states st) mostExits) ⌝ }
+// A state with the given exits.
+fn with_exits(st: Stored, exit: [Exit; MOST_EXITS]) -> State
+    ensures { λ r. ⌜ r ≡ withExits st exit ⌝ }
 {
-    if !both(rules::state_fits(st), rules::state_reaches(n, states, st)) {
-        return false;
+    State {
+        kind: st.kind,
+        exits: st.exits,
+        sender: st.sender,
+        typ: st.typ,
+        after: st.after,
+        timeout: st.timeout,
+        cancel: st.cancel,
+        receivers: st.receivers,
+        exit,
     }
-    let mut x = 0;
+}
+
+// The exits of a state, from its first on.
+fn exits_from<'a>(
+    targets: &'a [u8],
+    senders: &'a [u8],
+    types: &'a [u8],
+    st: Stored,
+) -> [Exit; MOST_EXITS]
+    ensures { λ r. ⌜ r ≡ exitsFrom (now (targets .entry)) (now (senders .entry)) (now (types .entry)) st ⌝ }
+{
+    let first = st.first as usize;
+    let exits = st.exits as usize;
+    let mut exit = records::no_exits();
+    let mut x: usize = 0;
     while x < MOST_EXITS {
-        if !exit_valid(n, states, st, x) {
+        if exits <= x {
+            return exit;
+        }
+        exit[x] = exit_at(targets, senders, types, first + x);
+        x += 1;
+    }
+    exit
+}
+
+// The exits that a state has are right.
+fn exits_valid<'a>(
+    targets: &'a [u8],
+    senders: &'a [u8],
+    types: &'a [u8],
+    n: u8,
+    states: u8,
+    st: Stored,
+) -> bool
+    ensures { λ r. ⌜ r ≡ allBelow (exitValid n states (unpacked (now (targets .entry)) (now (senders .entry)) (now (types .entry)) st)) mostExits ⌝ }
+{
+    let first = st.first as usize;
+    let exits = st.exits as usize;
+    let mut x: usize = 0;
+    while x < MOST_EXITS {
+        if exits <= x {
+            return true;
+        }
+        let e = exit_at(targets, senders, types, first + x);
+        if !both(
+            rules::exit_fits(st.kind, e),
+            rules::exit_reaches(n, states, e),
+        ) {
             return false;
         }
         x += 1;
     }
     true
+}
+
+// A state that is there, of a subject with so many states, with its exits, which begin at the given place.
+fn state_valid<'a>(
+    targets: &'a [u8],
+    senders: &'a [u8],
+    types: &'a [u8],
+    n: u8,
+    states: u8,
+    place: usize,
+    st: Stored,
+) -> bool
+    ensures { λ r. ⌜ r ≡ storedValid (now (targets .entry)) (now (senders .entry)) (now (types .entry)) n states place st ⌝ }
+{
+    let own = with_exits(st, records::no_exits());
+    let fits = both(rules::state_fits(own), rules::state_reaches(n, states, own));
+    if !both(fits, st.first as usize == place) {
+        return false;
+    }
+    exits_valid(targets, senders, types, n, states, st)
 }
 
 // Sender and type of a row as one number.
@@ -114,18 +187,9 @@ fn subject_valid(n: u8, s: u8, sub: Subject, kind: u8) -> bool
     true
 }
 
-// Eight bytes as one number, low first: the compiler reads them at once.
-fn eight(a: u8, b: u8, c: u8, d: u8, e: u8, f: u8, g: u8, h: u8) -> u64
-    ensures { λ r. ⌜ r ≡ a + 256 * b + 65536 * c + 16777216 * d + 4294967296 * e + 1099511627776 * f + 281474976710656 * g + 72057594037927936 * h ⌝ }
-{
-    let low = a as u64 + 256 * (b as u64) + 65536 * (c as u64) + 16777216 * (d as u64);
-    let mid = low + 4294967296 * (e as u64) + 1099511627776 * (f as u64);
-    mid + 281474976710656 * (g as u64) + 72057594037927936 * (h as u64)
-}
-
-// A number that is 0 exactly where the state is blank, the exits aside.
-fn own_bits(st: State) -> u64
-    ensures { λ r. ⌜ eqb r 0 ≡ isBlankState st ⌝ }
+// A number that is 0 exactly where there is nothing but zeros: the compiler reads eight bytes at once.
+fn bits(st: Stored) -> u64
+    ensures { λ r. ⌜ eqb r 0 ≡ isBlankStored st ⌝ }
 {
     let low = st.kind as u64
         + 256 * (st.exits as u64)
@@ -133,52 +197,20 @@ fn own_bits(st: State) -> u64
         + 16777216 * (st.typ as u64);
     let mid = low + 4294967296 * (st.after as u64);
     let all = mid + 281474976710656 * (st.timeout as u64) + 72057594037927936 * (st.cancel as u64);
-    all | (st.receivers as u64)
+    all | (st.receivers as u64 + 65536 * (st.first as u64))
 }
 
-// A number that is 0 exactly where all exits are blank.
-fn exit_bits(st: State) -> u64
-    ensures { λ r. ⌜ eqb r 0 ≡ allBelow (λ x. isBlankExit (exitAt st x)) mostExits ⌝ }
+// Nothing but zeros from place k on: no branch until the end.
+fn none_after(k: usize, bytes: &[u8]) -> bool
+    ensures { λ r. ⌜ r ≡ noneAfter k (now (bytes .entry)) ⌝ }
 {
-    let e0 = st.exit[0];
-    let e1 = st.exit[1];
-    let e2 = st.exit[2];
-    let e3 = st.exit[3];
-    let e4 = st.exit[4];
-    let e5 = st.exit[5];
-    let e6 = st.exit[6];
-    let e7 = st.exit[7];
-    let a = eight(
-        e0.target,
-        e0.sender,
-        e0.typ,
-        e1.target,
-        e1.sender,
-        e1.typ,
-        e2.target,
-        e2.sender,
-    );
-    let b = eight(
-        e2.typ,
-        e3.target,
-        e3.sender,
-        e3.typ,
-        e4.target,
-        e4.sender,
-        e4.typ,
-        e5.target,
-    );
-    let c = eight(
-        e5.sender,
-        e5.typ,
-        e6.target,
-        e6.sender,
-        e6.typ,
-        e7.target,
-        e7.sender,
-        e7.typ,
-    );
-    (a | b) | c
+    let mut seen: u8 = 0;
+    let mut j = k;
+    while j < bytes.len() {
+        seen = seen | bytes[j];
+        j += 1;
+    }
+    seen == 0
 }
 
 // The start mask names a subject, and none from n up.
@@ -212,10 +244,16 @@ fn put_together(
 pub fn view(m: Model, numbers: [u8; MOST_SUBJECTS], subject: u8) -> Seen
     ensures { λ r. ⌜ r ≡ viewOf m numbers subject ⌝ }
 {
-    let mut here = [m.states[0]; MOST_SUBJECTS];
+    let none = with_exits(m.states[0], records::no_exits());
+    let mut here = [none; MOST_SUBJECTS];
     let mut j: usize = 0;
     while j < MOST_SUBJECTS {
-        here[j] = m.states[j * MOST_STATES + (numbers[j] % 32) as usize];
+        let st = m.states[j * MOST_STATES + (numbers[j] % 32) as usize];
+        let mut exit = records::no_exits();
+        if st.exits != 0 {
+            exit = exits_from(&m.targets, &m.senders, &m.types, st);
+        }
+        here[j] = with_exits(st, exit);
         j += 1;
     }
     let from = (subject % 16) as usize * MOST_STATES;
@@ -242,7 +280,7 @@ pub fn view(m: Model, numbers: [u8; MOST_SUBJECTS], subject: u8) -> Seen
         let mut t: usize = 0;
         while t < states {
             let st = m.states[s * MOST_STATES + t];
-            if !state_valid(n, sub.states, st) {
+            if !state_valid(&m.targets, &m.senders, &m.types, n, sub.states, exits, st) {
                 return put_together(false, n, subjects, here, kinds);
             }
             exits += st.exits as usize;
@@ -250,19 +288,44 @@ pub fn view(m: Model, numbers: [u8; MOST_SUBJECTS], subject: u8) -> Seen
         }
         // Most places of a model have no state: no branch until the end.
         let mut own: u64 = 0;
-        let mut others: u64 = 0;
         while t < MOST_STATES {
-            let st = m.states[s * MOST_STATES + t];
-            own = own | own_bits(st);
-            others = others | exit_bits(st);
+            own = own | bits(m.states[s * MOST_STATES + t]);
             t += 1;
         }
-        if !both(own == 0, others == 0) {
+        if own != 0 {
             return put_together(false, n, subjects, here, kinds);
         }
         s += 1;
     }
-    put_together(exits <= MOST_EXITS_IN_ALL, n, subjects, here, kinds)
+    if MOST_EXITS_IN_ALL < exits {
+        return put_together(false, n, subjects, here, kinds);
+    }
+    let targets = none_after(exits, &m.targets);
+    let senders = none_after(exits, &m.senders);
+    let types = none_after(exits, &m.types);
+    put_together(
+        both(both(targets, senders), types),
+        n,
+        subjects,
+        here,
+        kinds,
+    )
+}
+
+// Every state with its exits, for who looks at many.
+pub fn states(m: Model) -> [State; STATE_PLACES]
+    ensures { λ r. ⌜ r ≡ statesOf m ⌝ }
+{
+    let none = with_exits(m.states[0], records::no_exits());
+    let mut all = [none; STATE_PLACES];
+    let mut p: usize = 0;
+    while p < STATE_PLACES {
+        let st = m.states[p];
+        let exit = exits_from(&m.targets, &m.senders, &m.types, st);
+        all[p] = with_exits(st, exit);
+        p += 1;
+    }
+    all
 }
 
 // Whether some file loads to the model.

@@ -2,7 +2,7 @@
 use mathlib.Core.Path.{_≡_, refl, sym, ap, _∙_}
 use mathlib.Core.Bool.{Bool, true, false, cond}
 use mathlib.Core.List.{List, []}
-use Prim.Native.Nat.{ℕ, suc, _+_, _-_, _*_, _/_, _%_, _≤_, _<_}
+use Prim.Native.Nat.{ℕ, suc, _+_, _*_, _/_, _%_, _≤_, _<_}
 use native.Mathlib.Numerals.{add-one}
 use native.Mathlib.Omega.{arith}
 use borrow.Author.Tests.{ltb-true, ltb-false, lt-ltb, eq-eqb, le-leb}
@@ -12,19 +12,19 @@ use lib.Seq.{ext-getD}
 use Rattle.sets.specs.Below.{sumBelow}
 use Rattle.sets.specs.Groups.{placeIn, inPlaces}
 use Rattle.sets.proofs.Tests.{and-true}
-use Rattle.sets.proofs.Below.{table-at, table-of, length-table, sum-same, sum-has, all-by}
-use Rattle.sets.proofs.Groups.{lined-at, length-lined, spot, count-group}
+use Rattle.sets.proofs.Below.{table-at, table-of, length-table, sum-same, sum-grows, sum-has, all-by}
+use Rattle.sets.proofs.Groups.{lined-at, length-lined, Spot, spot, count-group}
 use Rattle.blocks.specs.Blocks.{firstBlock, recordOf, recordNo, countOf}
-use Rattle.model.specs.Records.{blankExit, blankRow, stateOf, exitOf, rowOf, fullKey}
-use Rattle.model.specs.Decoded.{subjectsIn, limitsIn, rowsIn, rowsFrom, subjectIn, statesIn, hasState, stateRecordIn, exitsIn, exitsFrom, stateFrom, stateIn, modelOf, stateNamed, exitsNamed, exitsNamedIn, ownerThere, statesInPlace, exitsInPlace, limitsInPlace, inPlace}
-use Rattle.model.specs.Valid.{subjectAt, stateAt, exitAt, rowAt, noState, noSubject, Held}
+use Rattle.model.specs.Records.{blankExit, blankRow, blankStored, storedOf, withExits, rowOf, fullKey}
+use Rattle.model.specs.Decoded.{subjectsIn, limitsIn, rowsIn, rowsFrom, subjectIn, statesIn, hasState, stateRecordIn, exitsIn, storedIn, exitBytes, modelOf, stateNamed, exitsNamed, exitsNamedIn, ownerThere, statesInPlace, exitsInPlace, limitsInPlace, inPlace}
+use Rattle.model.specs.Valid.{subjectAt, storedAt, exitNo, stateAt, exitAt, rowAt, noSubject, Held}
 use Rattle.model.specs.File.{headerRecord, subjectRecord, stateRecord, exitRecord, limitRecord, headers, stateRecords, exitRecords, limitRecords, recordsOf}
 use Rattle.model.specs.declared.Exit.{Exit}
 use Rattle.model.specs.declared.Model.{Model}
 use Rattle.model.specs.declared.Row.{Row}
-use Rattle.model.specs.declared.State.{State}
+use Rattle.model.specs.declared.Stored.{Stored}
 use Rattle.model.specs.declared.Subject.{Subject}
-use Rattle.model_promises.proofs.Facts.{GoodModel, statesOf, rowsOf, exitsOf}
+use Rattle.model_promises.proofs.Facts.{GoodModel, statesOf, rowsOf, exitsOf, exit-is}
 use Rattle.model_promises.proofs.Lines.{length-states, length-exits, length-limits}
 use Rattle.model_promises.proofs.Packed.{Packed}
 
@@ -33,13 +33,10 @@ use Rattle.model_promises.proofs.Packed.{Packed}
 pub word-back : (x : ℕ) → x % 256 + 256 * (x / 256) ≡ x
 word-back x = omega arith
 
-state-back : (s t : ℕ) (st : State) → stateOf (stateRecord s t st) (st .exit) ≡ st
-unfolding stateOf
-state-back s t st = rw (word-back (st .after), word-back (st .receivers))
-
-exit-back : (s t x : ℕ) (e : Exit) → exitOf (exitRecord s t x e) ≡ e
-unfolding exitOf
-exit-back s t x e = refl
+-- what is kept of a state, whatever its exits
+state-back : (s t : ℕ) (st : Stored) (es : List Exit) → storedOf (stateRecord s t (withExits st es)) (st .first) ≡ st
+unfolding storedOf withExits
+state-back s t st es = rw (word-back (st .after), word-back (st .receivers))
 
 row-back : (s : ℕ) (w : Row) → rowOf (limitRecord s w) ≡ w
 unfolding rowOf
@@ -174,29 +171,24 @@ module _ (m : Model) (held : Held m) (good : GoodModel m) (file : List ℕ) (pk 
   exit-starts-back : (p : ℕ) → p ≤ 512 → sumBelow (exitsIn file) p ≡ sumBelow exits p
   exit-starts-back p l = sum-same (exitsIn file) exits p (λ i k. exits-back i (omega arith))
 
-  -- the exits of the state at place p
-  exit-list : (p : ℕ) → p < 512 → exitsFrom file (firstBlock file 3) (sumBelow (exitsIn file) p) (exits p) ≡ stateAt m p .exit
-  unfolding exitsFrom inPlaces
-  exit-list p l =
-      rw (exit-starts-back p (omega arith))
-      (table-of _ 8 blankExit (stateAt m p .exit) (held .exits p l) (λ x lx. each x lx (ltb x (exits p)) refl))
-    where
-      each : (x : ℕ) → x < 8 → (b : Bool) → ltb x (exits p) ≡ b
-          → cond (ltb x (exits p)) (exitOf (recordNo file 3 (placeIn exits p x))) blankExit ≡ exitAt (stateAt m p) x
-      each x lx true e = rw (e, exit-record p x l (ltb-true _ _ e)) (exit-back (p / 32) (p % 32) x _)
-      each x lx false e = rw e (sym (good .state p l .blank x lx (ltb-false _ _ e)))
+  -- where the exits of the state at place p begin
+  first-back : (p : ℕ) → p < 512 → p % 32 < states (p / 32) → sumBelow (exitsIn file) p % 65536 ≡ storedAt m p .first
+  first-back p l h =
+      let few = good .exits in
+      rw (exit-starts-back p (omega arith), good .first p l h) (omega (arith, sum-grows exits p 512 (omega arith)))
 
-  state-in-back : (p : ℕ) → p < 512 → stateIn file p ≡ stateAt m p
-  unfolding stateIn stateFrom
-  state-in-back p l = go (ltb (p % 32) (states (p / 32))) refl
+  -- what is kept of the state at place p
+  stored-back : (p : ℕ) → p < 512 → storedIn file p ≡ storedAt m p
+  unfolding storedIn withExits
+  stored-back p l = go (ltb (p % 32) (states (p / 32))) refl
     where
-      go : (b : Bool) → ltb (p % 32) (states (p / 32)) ≡ b → stateIn file p ≡ stateAt m p
-      go true e = rw (has-back p l, e, state-there p l (ltb-true _ _ e), exit-list p l) (state-back (p / 32) (p % 32) (stateAt m p))
+      go : (b : Bool) → ltb (p % 32) (states (p / 32)) ≡ b → storedIn file p ≡ storedAt m p
+      go true e =
+          let h = ltb-true _ _ e in
+          rw (has-back p l, e, state-there p l h, first-back p l h) (state-back (p / 32) (p % 32) (storedAt m p) (stateAt m p .exit))
       go false e =
-          let g = good .state p l in
-          let z = g .empty (ltb-false _ _ e) in
-          let none = z .exits in
-          let w = all-blank 8 blankExit (stateAt m p .exit) (held .exits p l) (λ x lx. g .blank x lx (omega arith)) in
+          let z = good .state p l .empty (ltb-false _ _ e) in
+          let f = good .no-first p l (ltb-false _ _ e) in
           rw (has-back p l, e)
           (λ i. record {
             kind = sym (z .kind) i;
@@ -207,8 +199,32 @@ module _ (m : Model) (held : Held m) (good : GoodModel m) (file : List ℕ) (pk 
             timeout = sym (z .timeout) i;
             cancel = sym (z .cancel) i;
             receivers = sym (z .receivers) i;
-            exit = w i;
+            first = sym f i;
           })
+
+  -- ---- exits
+
+  -- exit j of the model
+  abbrev exitOfAll : ℕ → Exit
+  exitOfAll j = exitNo (m .targets) (m .senders) (m .types) j
+
+  -- the record of exit j
+  exit-there : (j : ℕ) (s : Spot exits 512 j) → recordNo file 3 j ≡ exitRecord (s .g / 32) (s .g % 32) (s .k) (exitOfAll j)
+  exit-there j s =
+      ap (recordNo file 3) (sym (s .place)) ∙ exit-record (s .g) (s .k) (s .group) (s .inside)
+      ∙ ap (exitRecord (s .g / 32) (s .g % 32) (s .k)) (exit-is m good (s .g) (s .k) (s .group) (s .inside) ∙ ap exitOfAll (s .place))
+
+  -- the bytes f of the exit records are a list of the model's, where each says the same part of an exit
+  part-back : (f : ℕ) (part : Exit → ℕ) (bytes : List ℕ) → length bytes ≡ 1024 → part blankExit ≡ 0 → ((j : ℕ) → part (exitOfAll j) ≡ getD bytes j 0)
+      → ((s t x : ℕ) (e : Exit) → getD (exitRecord s t x e) f 0 ≡ part e) → exitBytes file f ≡ bytes
+  unfolding exitBytes inPlaces
+  part-back f part bytes long blank each says =
+      rw count-exits (table-of _ 1024 0 bytes long (λ j lj. go j lj (ltb j (sumBelow exits 512)) refl))
+    where
+      go : (j : ℕ) → j < 1024 → (b : Bool) → ltb j (sumBelow exits 512) ≡ b
+          → cond (ltb j (sumBelow exits 512)) (getD (recordNo file 3 j) f 0) 0 ≡ getD bytes j 0
+      go j lj true e = rw (e, exit-there j (spot exits 512 j (ltb-true _ _ e))) (says _ _ _ _ ∙ each j)
+      go j lj false e = rw e (sym blank ∙ ap part (sym (good .no-more j (ltb-false _ _ e))) ∙ each j)
 
   -- ---- all of it
 
@@ -218,8 +234,11 @@ module _ (m : Model) (held : Held m) (good : GoodModel m) (file : List ℕ) (pk 
       let a = ap (λ (r : List ℕ). getD r 0 0) header-first in
       let b = ap (λ (r : List ℕ). getD r 1 0 + 256 * getD r 2 0) header-first ∙ word-back (m .start) in
       let c = table-of (subjectIn file) 16 noSubject (m .subjects) (held .subjects) subject-back in
-      let d = table-of (stateIn file) 512 noState (m .states) (held .states) state-in-back in
-      λ i. record { n = a i; start = b i; subjects = c i; states = d i }
+      let d = table-of (storedIn file) 512 blankStored (m .states) (held .states) stored-back in
+      let x = part-back 3 (λ e. e .target) (m .targets) (held .targets) refl (λ j. refl) (λ s t x e. refl) in
+      let y = part-back 4 (λ e. e .sender) (m .senders) (held .senders) refl (λ j. refl) (λ s t x e. refl) in
+      let z = part-back 5 (λ e. e .typ) (m .types) (held .types) refl (λ j. refl) (λ s t x e. refl) in
+      λ i. record { n = a i; start = b i; subjects = c i; states = d i; targets = x i; senders = y i; types = z i }
 
   -- ---- each record stands where the model has its thing
 

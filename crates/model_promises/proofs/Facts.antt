@@ -1,20 +1,24 @@
 -- What validity tells of each part of a model: bounds for every number, and blank room where a thing is not there.
-use mathlib.Core.Path.{_≡_, refl}
+use mathlib.Core.Path.{_≡_, refl, _∙_}
 use mathlib.Core.Logic.{_⊎_, inl, inr, ⊎-elim}
-use mathlib.Core.Bool.{Bool, true, false, _&&_, _||_, not}
-use Prim.Native.Nat.{ℕ, _-_, _/_, _%_, _≤_, _<_}
+use mathlib.Core.Bool.{Bool, true, false, _&&_, _||_, not, cond}
+use Prim.Native.Nat.{ℕ, _/_, _%_, _≤_, _<_}
 use native.Mathlib.Nat.{le-trans}
 use native.Mathlib.Omega.{arith}
 use borrow.Author.Tests.{ltb-true, ltb-false, leb-true, eqb-true, lt-ltb, le-ltb}
 use lib.Dec.{ltb, leb, eqb}
+use lib.ListN.{length}
 use Rattle.sets.specs.Below.{allBelow, sumBelow}
+use Rattle.sets.specs.Groups.{placeIn}
 use Rattle.sets.specs.Tests.{within, noneFrom}
 use Rattle.sets.proofs.Tests.{and-both, within-is, choose}
 use Rattle.sets.proofs.Below.{all-each}
+use Rattle.sets.proofs.Groups.{length-in-places, in-places-at}
 use Rattle.sets.proofs.Masks.{mask-below}
-use Rattle.model.specs.Records.{blankExit, blankRow}
+use Rattle.model.proofs.BlankLaws.{none-at}
+use Rattle.model.specs.Records.{blankExit, blankRow, withExits}
 use Rattle.model.specs.Rules.{any, isType, typeOrAny, shapeOf, namesFit, stateFits, exitFits, rowFits, thereOrAny, stateReaches, exitReaches, rowReaches}
-use Rattle.model.specs.Valid.{subjectAt, stateAt, exitAt, rowAt, isBlankState, exitValid, stateOwn, stateValid, rowAscends, rowValid, subjectOwn, subjectValid, subjectRight, stateRight, startRight, exitsInAll, valid}
+use Rattle.model.specs.Valid.{subjectAt, storedAt, exitNo, exitsFrom, stateAt, exitAt, rowAt, isBlankState, exitValid, stateOwn, stateValid, rowAscends, rowValid, subjectOwn, subjectValid, subjectRight, firstRight, stateRight, startRight, exitsInAll, noMoreExits, valid}
 use Rattle.model.specs.declared.Exit.{Exit}
 use Rattle.model.specs.declared.Model.{Model}
 use Rattle.model.specs.declared.Row.{Row}
@@ -213,6 +217,9 @@ pub record GoodModel (m : Model) : Type 0 where
   pub subject : (s : ℕ) → s < 16 → GoodSubject (m .n) s (subjectAt m s)
   pub state : (p : ℕ) → p < 512 → GoodState (subjectAt m (p / 32) .states) (p % 32) (stateAt m p)
   pub exits : sumBelow (λ p. stateAt m p .exits) 512 ≤ 1024
+  pub first : (p : ℕ) → p < 512 → p % 32 < subjectAt m (p / 32) .states → storedAt m p .first ≡ sumBelow (λ q. stateAt m q .exits) p
+  pub no-first : (p : ℕ) → p < 512 → subjectAt m (p / 32) .states ≤ p % 32 → storedAt m p .first ≡ 0
+  pub no-more : (j : ℕ) → sumBelow (λ p. stateAt m p .exits) 512 ≤ j → exitNo (m .targets) (m .senders) (m .types) j ≡ blankExit
 
 row-right : (n : ℕ) (sub : Subject) (k : ℕ) → n ≤ 16 → rowValid n sub k ≡ true → k < sub .rows → GoodRow (rowAt sub k) × (rowAscends sub k ≡ true)
 unfolding rowValid
@@ -346,10 +353,29 @@ state-good n states t st ln ls h =
       blank = λ x l g. exit-left n states st x (each x l) g;
     }
 
+-- the state at place p, and where its exits begin
+state-right : (m : Model) (p : ℕ) → m .n ≤ 16 → subjectAt m (p / 32) .states ≤ 32 → stateRight m p ≡ true
+    → GoodState (subjectAt m (p / 32) .states) (p % 32) (stateAt m p)
+    × (storedAt m p .first ≡ cond (ltb (p % 32) (subjectAt m (p / 32) .states)) (sumBelow (λ q. stateAt m q .exits) p) 0)
+unfolding stateRight firstRight
+state-right m p ln ls h = let b = and-both _ _ h in (state-good _ _ _ _ ln ls (b .left), eqb-true _ _ (b .right))
+
+-- past the last exit there is no exit
+no-exit : (m : Model) → noMoreExits m ≡ true → (j : ℕ) → exitsInAll m ≤ j → exitNo (m .targets) (m .senders) (m .types) j ≡ blankExit
+unfolding noMoreExits
+no-exit m h j l =
+    let b = and-both _ _ h in
+    let a = and-both _ _ (b .left) in
+    let x = none-at (m .targets) (exitsInAll m) j (a .left) l in
+    let y = none-at (m .senders) (exitsInAll m) j (a .right) l in
+    let z = none-at (m .types) (exitsInAll m) j (b .right) l in
+    λ i. record { target = x i; sender = y i; typ = z i }
+
 pub model-good : (m : Model) → valid m ≡ true → GoodModel m
-unfolding valid subjectRight stateRight exitsInAll
+unfolding valid subjectRight exitsInAll
 model-good m h =
-    let e = and-both _ _ h in
+    let more = and-both _ _ h in
+    let e = and-both _ _ (more .left) in
     let t = and-both _ _ (e .left) in
     let s = and-both _ _ (t .left) in
     let a = and-both (within 1 (m .n) 16) (startRight (m .n) (m .start)) (s .left) in
@@ -357,13 +383,17 @@ model-good m h =
     let ln = w .high in
     let start = and-both (not (eqb (m .start) 0)) (noneFrom (m .n) (m .start)) (a .right) in
     let subject : (k : ℕ) → k < 16 → GoodSubject (m .n) k (subjectAt m k) = λ k l. subject-good _ _ _ _ ln (all-each _ 16 (s .right) k l) in
+    let few : (p : ℕ) → p < 512 → subjectAt m (p / 32) .states ≤ 32 = λ p l. subject (p / 32) (omega arith) .states in
     record {
       low = w .low;
       high = w .high;
       start = mask-below 16 (m .n) (m .start) ln (start .right);
       subject = subject;
-      state = λ p l. state-good _ _ _ _ ln (subject (p / 32) (omega arith) .states) (all-each _ 512 (t .right) p l);
+      state = λ p l. state-right m p ln (few p l) (all-each _ 512 (t .right) p l) .0;
       exits = leb-true _ 1024 (e .right);
+      first = λ p l h. rw (lt-ltb _ _ h) at (state-right m p ln (few p l) (all-each _ 512 (t .right) p l) .1);
+      no-first = λ p l h. rw (le-ltb _ _ h) at (state-right m p ln (few p l) (all-each _ 512 (t .right) p l) .1);
+      no-more = no-exit m (more .right);
     }
 
 -- ---- how many of each there are
@@ -376,3 +406,32 @@ rowsOf m s = subjectAt m s .rows
 
 abbrev pub exitsOf : Model → ℕ → ℕ
 exitsOf m p = stateAt m p .exits
+
+-- ---- a state and what a model keeps of it
+
+-- a state has the duration that is kept of it
+pub stored-after : (m : Model) (p : ℕ) → stateAt m p .after ≡ storedAt m p .after
+unfolding withExits
+stored-after m p = refl
+
+-- a state has room for 8 exits
+pub exits-length : (m : Model) (p : ℕ) → length (stateAt m p .exit) ≡ 8
+unfolding withExits exitsFrom
+exits-length m p = length-in-places 8 _ _ _
+
+-- a state that has an exit is one that its subject has
+pub has-state : (m : Model) → GoodModel m → (p x : ℕ) → p < 512 → x < stateAt m p .exits → p % 32 < subjectAt m (p / 32) .states
+has-state m good p x l h = go (ltb (p % 32) (subjectAt m (p / 32) .states)) refl
+  where
+    go : (b : Bool) → ltb (p % 32) (subjectAt m (p / 32) .states) ≡ b → p % 32 < subjectAt m (p / 32) .states
+    go true e = ltb-true _ _ e
+    go false e = let z = good .state p l .empty (ltb-false _ _ e) .exits in absurd (omega arith)
+
+-- exit x of the state at place p, among those of all states
+pub exit-is : (m : Model) → GoodModel m → (p x : ℕ) → p < 512 → x < stateAt m p .exits
+    → exitAt (stateAt m p) x ≡ exitNo (m .targets) (m .senders) (m .types) (placeIn (exitsOf m) p x)
+unfolding withExits exitsFrom
+exit-is m good p x l h =
+    let few = good .state p l .small .exits in
+    in-places-at 8 blankExit (storedAt m p .exits) _ x blankExit (omega arith)
+    ∙ rw (lt-ltb x (storedAt m p .exits) h, good .first p l (has-state m good p x l h))

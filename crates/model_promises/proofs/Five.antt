@@ -3,7 +3,7 @@ use mathlib.Core.Path.{_≡_, refl, ap, _∙_}
 use mathlib.Core.Bool.{Bool, true, false, _&&_, not, cond}
 use mathlib.Core.List.{List}
 use Prim.Native.Nat.{ℕ, zero, suc, _+_, _*_, _/_, _<_}
-use borrow.Author.Tests.{ltb-true, ltb-false, le-leb}
+use borrow.Author.Tests.{ltb-true, ltb-false, le-leb, leb-true}
 use lib.Dec.{ltb, leb, eqb}
 use Rattle.sets.specs.Below.{allBelow}
 use Rattle.sets.proofs.Tests.{within-true}
@@ -24,6 +24,10 @@ use Rattle.model_promises.proofs.Shown.{Shown, ShownSubject, ShownState
 and-end : {a b : Bool} → b ≡ true → (a && b) ≡ a
 and-end {a = true} h = h
 and-end {a = false} h = refl
+
+and-none : (a : Bool) → (a && false) ≡ false
+and-none true = refl
+and-none false = refl
 
 and-assoc : (a b c : Bool) → (a && (b && c)) ≡ (a && b && c)
 and-assoc true b c = refl
@@ -92,7 +96,7 @@ module _ (m : Model) (g : Shown m) where
       let n = m .n in
       let states = subjectAt m (p / 32) .states in
       let h = g .state p l in
-      rw (state-left h n, all-same (exitValid n states (stateAt m p)) _ 8 (exit-left h n))
+      rw (state-left h n, all-same (exitValid n states (stateAt m p)) _ 8 (exit-left h n)) (and-end (g .first p l))
 
   valid-left : valid m ≡ (startRight (m .n) (m .start) && allBelow (initialThere m) 16 && allBelow (rowsThere m) 16 && allBelow (stateThere m) 512 && leb (exitsInAll m) 1024)
   unfolding valid
@@ -101,13 +105,20 @@ module _ (m : Model) (g : Shown m) where
       let a = all-same (subjectRight m) (λ s. initialThere m s && rowsThere m s) 16 subject-left ∙ all-and (initialThere m) (rowsThere m) 16 in
       let b = all-same (stateRight m) (stateThere m) 512 state-right-left in
       rw (within-true (w .low) (w .high), a, b)
-      (ap (λ (x : Bool). x && allBelow (stateThere m) 512 && leb (exitsInAll m) 1024)
+      (and-end (g .no-more)
+      ∙ ap (λ (x : Bool). x && allBelow (stateThere m) 512 && leb (exitsInAll m) 1024)
       (and-assoc (startRight (m .n) (m .start)) (allBelow (initialThere m) 16) (allBelow (rowsThere m) 16)))
+
+-- more exits than there is room for: not valid
+too-many : (m : Model) → leb (exitsInAll m) 1024 ≡ false → valid m ≡ false
+unfolding valid
+too-many m h = rw (h, and-none)
 
 pub only-five : (file : List ℕ) → AreBytes file → Passes1 file → Passes3 file → Passes4 file → acrossRight file ≡ rowFive file
 unfolding rowFive
-only-five file bytes p1 p3 p4 = go (inPlace file) refl
+only-five file bytes p1 p3 p4 = go (inPlace file) refl (leb (exitsInAll (modelOf file)) 1024) refl
   where
-    go : (b : Bool) → inPlace file ≡ b → acrossRight file ≡ rowFive file
-    go true e = rw e (valid-left (modelOf file) (shown file bytes p1 p3 p4 e))
-    go false e = rw e
+    go : (a : Bool) → inPlace file ≡ a → (b : Bool) → leb (exitsInAll (modelOf file)) 1024 ≡ b → acrossRight file ≡ rowFive file
+    go true e true f = rw e (valid-left (modelOf file) (shown file bytes p1 p3 p4 e (leb-true (exitsInAll (modelOf file)) 1024 f)))
+    go true e false f = rw (e, too-many (modelOf file) f, f, and-none)
+    go false e b f = rw e

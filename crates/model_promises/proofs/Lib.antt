@@ -5,6 +5,7 @@ pub mod Packed
 pub mod Facts
 pub mod Lines
 pub mod Back
+pub mod Keys
 pub mod Right
 pub mod Loads
 pub mod One

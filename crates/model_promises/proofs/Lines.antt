@@ -2,7 +2,7 @@
 use mathlib.Core.Path.{_≡_, refl, sym, ap, subst}
 use mathlib.Core.Bool.{Bool, true, false}
 use mathlib.Core.List.{List, [], _∷_}
-use Prim.Native.Nat.{ℕ, zero, suc, _+_, _-_, _*_, _/_, _%_, _≤_, _<_}
+use Prim.Native.Nat.{ℕ, zero, suc, _+_, _*_, _/_, _%_, _≤_, _<_}
 use native.Mathlib.Nat.{le-trans, le-of-eq}
 use native.Mathlib.Omega.{arith}
 use borrow.Author.Tests.{ltb-true, ltb-false}
@@ -21,7 +21,7 @@ use Rattle.model.specs.declared.Model.{Model}
 use Rattle.model.specs.declared.Row.{Row}
 use Rattle.model.specs.declared.State.{State}
 use Rattle.model.specs.declared.Subject.{Subject}
-use Rattle.model_promises.proofs.Facts.{Small, GoodExit, GoodRow, GoodSubject, GoodModel}
+use Rattle.model_promises.proofs.Facts.{Small, GoodExit, GoodRow, GoodSubject, GoodModel, stored-after}
 use Rattle.model_promises.proofs.Packed.{Sound}
 
 byte : (x : ℕ) {s : List ℕ} → x < 256 → Bytes s → Bytes (x ∷ s)
@@ -110,7 +110,7 @@ module _ (m : Model) (held : Held m) (good : GoodModel m) where
       let g = good .subject s ls in
       let few = g .states in
       let p : s * 32 + t < 512 = omega arith in
-      state-twelve s t (stateAt m (s * 32 + t)) ls (omega arith) (good .state (s * 32 + t) p .small) (held .afters (s * 32 + t) p))
+      state-twelve s t (stateAt m (s * 32 + t)) ls (omega arith) (good .state (s * 32 + t) p .small) (rw (stored-after m (s * 32 + t)) (held .afters (s * 32 + t) p)))
 
   exits-twelve : AllTwelve (exitRecords m)
   unfolding exitRecords

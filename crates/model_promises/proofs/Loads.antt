@@ -17,15 +17,15 @@ use Rattle.sets.proofs.Tests.{and-true, and-both, choose}
 use Rattle.sets.proofs.Below.{first-each, first-is, first-by, first-found, length-table, table-at}
 use Rattle.blocks.proofs.BlockLaws.{record-from-bytes}
 use Rattle.blocks.specs.Blocks.{blocks, blockOf, checkRight, firstBlock}
-use Rattle.model.specs.Decoded.{subjectsIn, rowsFrom, subjectIn, statesIn, hasState, exitsFrom, stateFrom, stateIn, modelOf, inPlace}
-use Rattle.model.specs.Records.{stateOf}
+use Rattle.model.specs.Decoded.{subjectsIn, rowsFrom, subjectIn, statesIn, hasState, storedIn, exitBytes, modelOf, inPlace}
+use Rattle.model.specs.Records.{blankStored, storedOf}
 use Rattle.model.specs.Loading.{loaded, acrossRight, acrossOr, refused, unlessAt, emptyModel}
 use Rattle.model.specs.Stages.{lengthRight, blockRight, recordsRight}
 use Rattle.model.specs.File.{fileOf, recordsOf}
-use Rattle.model.specs.Valid.{noState, noSubject, valid, Held}
+use Rattle.model.specs.Valid.{noSubject, valid, Held}
 use Rattle.model.specs.declared.Loaded.{Loaded}
 use Rattle.model.specs.declared.Model.{Model}
-use Rattle.model.specs.declared.State.{State}
+use Rattle.model.specs.declared.Stored.{Stored}
 use Rattle.model.specs.declared.Subject.{Subject}
 use Rattle.blocks.specs.declared.Verdict.{Verdict}
 use Rattle.blocks.specs.declared.Verdict.the-variants.{Good, Length, Check, Block, Record, Across}
@@ -144,26 +144,30 @@ subject-row : (file : List ℕ) (s : ℕ) → length (subjectIn file s .row) ≡
 unfolding subjectIn rowsFrom
 subject-row file s = choose (λ (x : Subject). length (x .row) ≡ 8) (ltb s (subjectsIn file)) (λ _. length-in-places 8 _ _ _) (λ _. refl)
 
-state-exit : (file : List ℕ) (p : ℕ) → length (stateIn file p .exit) ≡ 8
-unfolding stateIn stateFrom stateOf exitsFrom
-state-exit file p = choose (λ (x : State). length (x .exit) ≡ 8) (hasState file p) (λ _. length-in-places 8 _ _ _) (λ _. refl)
-
-state-after : (file : List ℕ) (p : ℕ) → AreBytes file → stateIn file p .after < 65536
-unfolding stateIn stateFrom stateOf
+-- a duration is two bytes
+state-after : (file : List ℕ) (p : ℕ) → AreBytes file → storedIn file p .after < 65536
+unfolding storedIn storedOf
 state-after file p h =
-    choose (λ (x : State). x .after < 65536) (hasState file p)
+    choose (λ (x : Stored). x .after < 65536) (hasState file p)
     (λ _. let b = byte-at (record-from-bytes file (firstBlock file 2) (placeIn (statesIn file) (p / 32) (p % 32)) (bytes-by file h)) in omega (arith, b 6, b 7))
     (λ _. omega arith)
+
+-- one byte of each exit, in 1,024 places
+exit-bytes : (file : List ℕ) (f : ℕ) → length (exitBytes file f) ≡ 1024
+unfolding exitBytes
+exit-bytes file f = length-in-places 1024 _ _ _
 
 model-held : (file : List ℕ) → AreBytes file → Held (modelOf file)
 unfolding modelOf
 model-held file h =
     record {
       subjects = length-table (subjectIn file) 16;
-      states = length-table (stateIn file) 512;
+      states = length-table (storedIn file) 512;
       rows = λ s l. rw (table-at (subjectIn file) 16 s noSubject l) (subject-row file s);
-      exits = λ p l. rw (table-at (stateIn file) 512 p noState l) (state-exit file p);
-      afters = λ p l. rw (table-at (stateIn file) 512 p noState l) (state-after file p h);
+      targets = exit-bytes file 3;
+      senders = exit-bytes file 4;
+      types = exit-bytes file 5;
+      afters = λ p l. rw (table-at (storedIn file) 512 p blankStored l) (state-after file p h);
     }
 
 pub loads-held : (file : List ℕ) (m : Model) → AreBytes file → LoadsTo file m → Held m

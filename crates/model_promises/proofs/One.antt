@@ -49,7 +49,9 @@ use Rattle.model.proofs.load.Kinds as load-call-kinds
 use Rattle.model.proofs.is_valid.Reads as is-valid-call
 use Rattle.model.proofs.is_valid.Kinds as is-valid-call-kinds
 use Rattle.model.proofs.view.Reads as view-call
+use Rattle.model.proofs.states.Reads as states-call
 use Rattle.model.proofs.view.Kinds as view-call-kinds
+use Rattle.model.proofs.states.Kinds as states-call-kinds
 use Rattle.sets.proofs.rest.Reads as rest-call
 use Rattle.sets.proofs.rest.Kinds as rest-call-kinds
 use Rattle.blocks.proofs.block.Reads as block-call
@@ -134,6 +136,9 @@ is-valid-one κs a x y e p q = p ∙ sym q
 
 pub view-one : OneResult 0 view-call-kinds.ps view-call-kinds.r view-call.Learnt
 view-one κs a x y e p q = p ∙ sym q
+
+pub states-one : OneResult 0 states-call-kinds.ps states-call-kinds.r states-call.Learnt
+states-one κs a x y e p q = p ∙ sym q
 
 -- ---- a part of the caller's slice: the bytes are fixed, and the part is the caller's own
 

@@ -4,8 +4,8 @@ use mathlib.Core.Bool.{Bool, true, false, _||_, cond}
 use mathlib.Core.List.{List, []}
 use Prim.Native.Nat.{ℕ, zero, suc, _+_, _-_, _*_, _/_, _%_, _≤_, _<_}
 use native.Mathlib.Omega.{arith}
-use borrow.Author.Tests.{ltb-true, ltb-false, lt-ltb, eq-eqb, ne-eqb, eqb-true, eqb-false}
-use lib.Dec.{ltb, eqb}
+use borrow.Author.Tests.{ltb-true, lt-ltb, eq-eqb, ne-eqb}
+use lib.Dec.{eqb}
 use lib.ListN.{length, getD}
 use Rattle.sets.specs.Below.{sumBelow}
 use Rattle.sets.specs.Groups.{placeIn}
@@ -15,7 +15,7 @@ use Rattle.sets.proofs.Groups.{spot, line-ascends}
 use Rattle.blocks.specs.Blocks.{blocks, usedOf, recordOf, recordNo}
 use Rattle.model.specs.Records.{blankExits, stateOf, exitOf, rowOf, stateKey, orderOf}
 use Rattle.model.specs.Rules.{stateFits, exitFits, rowFits}
-use Rattle.model.specs.Stages.{recordBefore, ascends, kindAmong, ownKind, headerRight, exitRight, limitRight, fieldsRight, recordRight, recordsRight}
+use Rattle.model.specs.Stages.{recordBefore, ownKind, headerRight, exitRight, limitRight, fieldsRight, recordRight, recordsRight}
 use Rattle.model.specs.Valid.{subjectAt, stateAt, exitAt, rowAt, rowKey, rowAscends, Held}
 use Rattle.model.specs.File.{headerRecord, subjectRecord, stateRecord, exitRecord, limitRecord, headers, stateRecords, exitRecords, limitRecords, recordsOf}
 use Rattle.model.specs.declared.Exit.{Exit}
@@ -24,7 +24,8 @@ use Rattle.model.specs.declared.Row.{Row}
 use Rattle.model.specs.declared.State.{State}
 use Rattle.model.specs.declared.Subject.{Subject}
 use Rattle.model_promises.proofs.Back.{word-back, count-states, state-record}
-use Rattle.model_promises.proofs.Facts.{GoodSubject, GoodModel, statesOf, exitsOf}
+use Rattle.model_promises.proofs.Facts.{GoodSubject, GoodModel, statesOf, exitsOf, has-state}
+use Rattle.model_promises.proofs.Keys.{kind-found, key-apart}
 use Rattle.model_promises.proofs.Lines.{length-headers, lined-all}
 use Rattle.model_promises.proofs.Packed.{Packed, Standing}
 use Rattle.model_promises.proofs.Pieces.{zeros}
@@ -75,25 +76,6 @@ none-order : (k : ℕ) → orderOf k [] ≡ 0
 unfolding orderOf
 none-order k = refl
 
--- ---- the kind of an exit's own state
-
-pub kind-found : (file : List ℕ) (key n j : ℕ) → j < n → stateKey (recordNo file 2 j) ≡ key
-    → ((i : ℕ) → i < n → stateKey (recordNo file 2 i) ≡ key → i ≡ j) → kindAmong file key n ≡ getD (recordNo file 2 j) 2 0
-unfolding kindAmong
-kind-found file key zero j l e one = absurd (omega arith)
-kind-found file key (suc n) j l e one = go (λ k. kind-found file key n j k e (λ i m. one i (omega arith))) (eqb (stateKey (recordNo file 2 n)) key) refl
-  where
-    go : (j < n → kindAmong file key n ≡ getD (recordNo file 2 j) 2 0) → (b : Bool) → eqb (stateKey (recordNo file 2 n)) key ≡ b
-        → cond (eqb (stateKey (recordNo file 2 n)) key) (getD (recordNo file 2 n) 2 0) (kindAmong file key n) ≡ getD (recordNo file 2 j) 2 0
-    go ih true f = rw f (ap (λ (i : ℕ). getD (recordNo file 2 i) 2 0) (one n (omega arith) (eqb-true (stateKey (recordNo file 2 n)) key f)))
-    go ih false f =
-        let apart : n ≡ j → ⊥ = λ q. eqb-false (stateKey (recordNo file 2 n)) key f (ap (λ (i : ℕ). stateKey (recordNo file 2 i)) q ∙ e) in
-        rw f (ih (omega arith))
-
--- a key tells subject and state
-pub key-apart : (s t g k : ℕ) → t < 256 → k < 256 → k + 256 * g ≡ t + 256 * s → (g ≡ s) × (k ≡ t)
-key-apart s t g k lt lk e = (omega arith, omega arith)
-
 -- a row that is not the first comes after the one before it
 row-after : (sub : Subject) (k : ℕ) → rowAscends sub (suc k) ≡ true → rowKey (rowAt sub k) < rowKey (rowAt sub (suc k))
 row-after sub k h =
@@ -101,19 +83,11 @@ row-after sub k h =
     ltb-true _ _ (rw (ne-eqb (suc k) 0 (λ e. omega arith), z) at h)
 
 module _ (m : Model) (held : Held m) (good : GoodModel m) (file : List ℕ) (pk : Packed (recordsOf m) file) where
-  -- a state that has an exit is one that its subject has
-  has-state : (p x : ℕ) → p < 512 → x < stateAt m p .exits → p % 32 < subjectAt m (p / 32) .states
-  has-state p x l h = go (ltb (p % 32) (subjectAt m (p / 32) .states)) refl
-    where
-      go : (b : Bool) → ltb (p % 32) (subjectAt m (p / 32) .states) ≡ b → p % 32 < subjectAt m (p / 32) .states
-      go true e = ltb-true _ _ e
-      go false e = let z = good .state p l .empty (ltb-false _ _ e) .exits in absurd (omega arith)
-
   own-kind : (p x : ℕ) → p < 512 → x < exitsOf m p → ownKind file (p % 32 + 256 * (p / 32)) ≡ stateAt m p .kind
   own-kind p x l h =
       let q : p / 32 * 32 + p % 32 ≡ p = omega arith in
       let s : p / 32 < 16 = omega arith in
-      let has = has-state p x l h in
+      let has = has-state m good p x l h in
       let r = state-record m held good file pk (p / 32) (p % 32) s has in
       rw (count-states m held good file pk)
       (kind-found file (p % 32 + 256 * (p / 32)) (sumBelow (statesOf m) 16) (placeIn (statesOf m) (p / 32) (p % 32))

@@ -1,34 +1,36 @@
 -- A file that passes stages 1, 3 and 4, and whose records stand in place: every rule that one record shows holds in its model.
 use mathlib.Core.Path.{_≡_, refl, sym, ap, _∙_}
-use mathlib.Core.Bool.{true, _&&_, _||_}
+use mathlib.Core.Bool.{Bool, true, false, _&&_, _||_}
 use mathlib.Core.List.{List}
 use Prim.Native.Nat.{ℕ, zero, suc, _+_, _-_, _*_, _/_, _%_, _≤_, _<_}
 use native.Mathlib.Omega.{arith}
-use borrow.Author.Tests.{ltb-true, ltb-false, lt-ltb, le-ltb, leb-true, eqb-true, ne-eqb}
+use borrow.Author.Tests.{ltb-true, ltb-false, lt-ltb, le-ltb, leb-true, eqb-true, eq-eqb, ne-eqb}
 use lib.Dec.{ltb, leb, eqb}
-use lib.ListN.{getD, getD-replicate}
+use lib.ListN.{getD, getD-replicate, List·getD-eq-default}
 use Rattle.sets.proofs.Bytes.{byte-at, bytes-by}
 use Rattle.sets.specs.Below.{allBelow, sumBelow}
 use Rattle.sets.specs.Groups.{placeIn, inPlaces}
 use Rattle.sets.specs.Tests.{within}
-use Rattle.sets.proofs.Tests.{Within, within-is, and-both, choose}
-use Rattle.sets.proofs.Below.{all-each, table-at, sum-has, sum-same}
-use Rattle.sets.proofs.Groups.{in-places-at, spot}
+use Rattle.sets.proofs.Tests.{Within, within-is, and-true, and-both, choose}
+use Rattle.sets.proofs.Below.{all-each, table-at, sum-grows, sum-has, sum-same}
+use Rattle.sets.proofs.Groups.{in-places-at, length-in-places, spot}
 use Rattle.blocks.proofs.BlockLaws.{record-from-bytes}
 use Rattle.blocks.specs.Blocks.{firstBlock, recordNo, countOf}
-use Rattle.model.specs.Decoded.{subjectsIn, limitsIn, rowsIn, rowsFrom, subjectIn, statesIn, hasState, stateRecordIn, exitsIn, exitsFrom, stateFrom, stateIn, modelOf, stateNamed, exitsNamed, exitsNamedIn, ownerThere, statesInPlace, exitsInPlace, limitsInPlace, inPlace}
-use Rattle.model.specs.Records.{blankExit, blankExits, blankRow, stateOf, exitOf, rowOf, stateKey, fullKey}
+use Rattle.model.proofs.BlankLaws.{none-by}
+use Rattle.model.specs.Decoded.{subjectsIn, limitsIn, rowsIn, rowsFrom, subjectIn, statesIn, hasState, stateRecordIn, exitsIn, storedIn, exitBytes, modelOf, stateNamed, exitsNamed, exitsNamedIn, ownerThere, statesInPlace, exitsInPlace, limitsInPlace, inPlace}
+use Rattle.model.specs.Records.{blankExit, blankExits, blankRow, blankStored, stateOf, storedOf, withExits, exitOf, rowOf, stateKey, fullKey}
 use Rattle.model.specs.Rules.{shapeOf, stateFits, exitFits, rowFits}
 use Rattle.model.specs.Stages.{ownKind, exitRight, limitRight, fieldsRight}
-use Rattle.model.specs.Valid.{noState, noSubject, subjectAt, stateAt, exitAt, rowAt, isBlankExit, isBlankRow, isBlankState, rowKey, rowAscends, isBlankSubject}
+use Rattle.model.specs.Valid.{noSubject, subjectAt, storedAt, exitsFrom, unpacked, stateAt, exitAt, rowAt, isBlankExit, isBlankRow, isBlankState, rowKey, rowAscends, isBlankSubject, exitsBefore, firstRight, exitsInAll, noneAfter, noMoreExits}
 use Rattle.model.specs.declared.Exit.{Exit}
 use Rattle.model.specs.declared.Model.{Model}
 use Rattle.model.specs.declared.Row.{Row}
 use Rattle.model.specs.declared.State.{State}
+use Rattle.model.specs.declared.Stored.{Stored}
 use Rattle.model.specs.declared.Subject.{Subject}
 use Rattle.model_promises.specs.Loads.{AreBytes, Passes1, Passes3, Passes4}
 use Rattle.model_promises.proofs.Ordered.{own-place}
-use Rattle.model_promises.proofs.Right.{kind-found, key-apart}
+use Rattle.model_promises.proofs.Keys.{kind-found, key-apart}
 use Rattle.model_promises.proofs.Stacked.{subjects-within, states-within, fields-right, keys-climb}
 
 -- ---- what one record shows
@@ -51,6 +53,8 @@ pub record Shown (m : Model) : Type 0 where
   pub subjects : Within 1 (m .n) 16
   pub subject : (s : ℕ) → s < 16 → ShownSubject (m .n) s (subjectAt m s)
   pub state : (p : ℕ) → p < 512 → ShownState (subjectAt m (p / 32) .states) (p % 32) (stateAt m p)
+  pub first : (p : ℕ) → p < 512 → firstRight (subjectAt m (p / 32) .states) (p % 32) (exitsBefore m p) (storedAt m p .first) ≡ true
+  pub no-more : noMoreExits m ≡ true
 
 -- ---- a group in its places
 
@@ -291,34 +295,103 @@ module _ (file : List ℕ) (bytes : AreBytes file) (p1 : Passes1 file) (p3 : Pas
   unfolding exitsIn
   has-exit p e h = rw e h
 
-  state-shown : (p : ℕ) → p < 512 → ShownState (statesIn file (p / 32)) (p % 32) (stateIn file p)
-  unfolding stateIn stateFrom stateOf exitsFrom isBlankState
-  state-shown p l =
-      choose (ShownState (statesIn file (p / 32)) (p % 32)) (hasState file p)
-      (λ e.
-      let h = ltb-true (p % 32) (statesIn file (p / 32)) e in
-      let exits = getD (stateRecordIn file p) 3 0 in
-      record {
-        fits = λ _. state-fits (p / 32) (p % 32) (omega arith) h _;
-        gone = λ g. absurd (omega arith);
-        exit = λ x m g. rw (in-there 8 blankExit exits (λ x. exitOf (recordNo file 3 (exitNo p x))) x m g) (exit-fits p x l m (has-exit p e g) h);
-        blank = λ x m g. rw (in-gone 8 blankExit exits (λ x. exitOf (recordNo file 3 (exitNo p x))) x m g);
-      })
-      (λ e.
-      let h = ltb-false (p % 32) (statesIn file (p / 32)) e in
-      record {
-        fits = λ g. absurd (omega arith);
-        gone = λ _. refl;
-        exit = λ x m g. absurd (omega arith);
-        blank = λ x m g. rw (getD-replicate 8 x blankExit blankExit m);
-      })
+  -- ---- the exits as the model keeps them, where all fit
 
-pub shown : (file : List ℕ) → AreBytes file → Passes1 file → Passes3 file → Passes4 file → inPlace file ≡ true → Shown (modelOf file)
-unfolding modelOf statesIn
-shown file bytes p1 p3 p4 e =
+  module _ (fit : sumBelow (exitsIn file) 512 ≤ 1024) where
+    -- where the exits of a state begin is small enough for its two bytes
+    first-is : (p : ℕ) → p < 512 → sumBelow (exitsIn file) p % 65536 ≡ sumBelow (exitsIn file) p
+    first-is p l = omega (arith, sum-grows (exitsIn file) p 512 (omega arith))
+
+    -- so each state says where its exits begin
+    first-right : (p : ℕ) → p < 512 → firstRight (statesIn file (p / 32)) (p % 32) (sumBelow (exitsIn file) p) (storedIn file p .first) ≡ true
+    unfolding firstRight storedIn storedOf
+    first-right p l = go (hasState file p) refl
+      where
+        go : (b : Bool) → hasState file p ≡ b → firstRight (statesIn file (p / 32)) (p % 32) (sumBelow (exitsIn file) p) (storedIn file p .first) ≡ true
+        go true e = rw e (eq-eqb _ _ (first-is p l))
+        go false e = rw e
+
+    -- byte f of exit x of the state at place p is that of its record
+    exit-byte : (f p x : ℕ) → p < 512 → x < exitsIn file p
+        → getD (exitBytes file f) (sumBelow (exitsIn file) p % 65536 + x) 0 ≡ getD (recordNo file 3 (exitNo p x)) f 0
+    unfolding exitBytes
+    exit-byte f p x l h =
+        let few = exit-place p x l h in
+        rw (first-is p l) (in-there 1024 0 (countOf file 3) (λ j. getD (recordNo file 3 j) f 0) (exitNo p x) (omega (arith, pl .exits)) few)
+
+    -- the state at place p as the model shows it
+    state-shown : (p : ℕ) → p < 512
+        → ShownState (statesIn file (p / 32)) (p % 32) (unpacked (exitBytes file 3) (exitBytes file 4) (exitBytes file 5) (storedIn file p))
+    unfolding storedIn storedOf withExits stateOf exitsFrom exitOf isBlankState
+    state-shown p l =
+        choose (λ (st : Stored). ShownState (statesIn file (p / 32)) (p % 32) (unpacked (exitBytes file 3) (exitBytes file 4) (exitBytes file 5) st)) (hasState file p)
+        (λ e.
+        let h = ltb-true (p % 32) (statesIn file (p / 32)) e in
+        let exits = getD (stateRecordIn file p) 3 0 in
+        record {
+          fits = λ _. state-fits (p / 32) (p % 32) (omega arith) h _;
+          gone = λ g. absurd (omega arith);
+          exit = λ x m g.
+              let i = has-exit p e g in
+              rw (in-there 8 blankExit exits _ x m g, exit-byte 3 p x l i, exit-byte 4 p x l i, exit-byte 5 p x l i) (exit-fits p x l m i h);
+          blank = λ x m g. rw (in-gone 8 blankExit exits _ x m g);
+        })
+        (λ e.
+        let h = ltb-false (p % 32) (statesIn file (p / 32)) e in
+        record {
+          fits = λ g. absurd (omega arith);
+          gone = λ _. refl;
+          exit = λ x m g. absurd (omega arith);
+          blank = λ x m g. rw (in-gone 8 blankExit 0 _ x m (omega arith));
+        })
+
+-- ---- what the model of a file has at a place
+
+module _ (file : List ℕ) where
+  stored-at : (p : ℕ) → p < 512 → storedAt (modelOf file) p ≡ storedIn file p
+  unfolding modelOf
+  stored-at p l = table-at (storedIn file) 512 p blankStored l
+
+  -- as many exits as the state's record says
+  stored-exits : (p : ℕ) → p < 512 → stateAt (modelOf file) p .exits ≡ exitsIn file p
+  unfolding withExits storedIn storedOf exitsIn
+  stored-exits p l = ap (λ (st : Stored). st .exits) (stored-at p l) ∙ go (hasState file p) refl
+    where
+      go : (b : Bool) → hasState file p ≡ b → storedIn file p .exits ≡ exitsIn file p
+      go true e = rw e
+      go false e = rw e
+
+  -- so the exits of the states before place p are those of the file
+  before-is : (p : ℕ) → p ≤ 512 → exitsBefore (modelOf file) p ≡ sumBelow (exitsIn file) p
+  before-is p l = sum-same _ (exitsIn file) p (λ q k. stored-exits q (omega arith))
+
+  all-is : exitsInAll (modelOf file) ≡ sumBelow (exitsIn file) 512
+  unfolding exitsInAll
+  all-is = before-is 512 (omega arith)
+
+  -- past the last exit record the model has zeros
+  none-after : (f : ℕ) → noneAfter (countOf file 3) (exitBytes file f) ≡ true
+  unfolding exitBytes
+  none-after f = none-by _ (countOf file 3) (λ j g. go j g (ltb j 1024) refl)
+    where
+      go : (j : ℕ) → countOf file 3 ≤ j → (b : Bool) → ltb j 1024 ≡ b → getD (exitBytes file f) j 0 ≡ 0
+      go j g true e = in-gone 1024 0 (countOf file 3) (λ i. getD (recordNo file 3 i) f 0) j (ltb-true j 1024 e) g
+      go j g false e =
+          List·getD-eq-default (exitBytes file f) 0 (omega (arith, ltb-false j 1024 e, length-in-places 1024 0 (countOf file 3) (λ i. getD (recordNo file 3 i) f 0)))
+
+pub shown : (file : List ℕ) → AreBytes file → Passes1 file → Passes3 file → Passes4 file → inPlace file ≡ true → exitsInAll (modelOf file) ≤ 1024
+    → Shown (modelOf file)
+unfolding modelOf statesIn noMoreExits
+shown file bytes p1 p3 p4 e few =
     let pl = placed file e in
+    let fit = rw (all-is file) at few in
+    let all : exitsInAll (modelOf file) ≡ countOf file 3 = all-is file ∙ sym (pl .exits) in
     record {
       subjects = subjects-within file p1 p3 p4;
       subject = λ s l. rw (table-at (subjectIn file) 16 s noSubject l) (subject-shown file bytes p1 p3 p4 pl s l);
-      state = λ p l. rw (table-at (subjectIn file) 16 (p / 32) noSubject (omega arith), table-at (stateIn file) 512 p noState l) (state-shown file bytes p1 p3 p4 pl p l);
+      state = λ p l. rw (table-at (subjectIn file) 16 (p / 32) noSubject (omega arith), stored-at file p l) (state-shown file bytes p1 p3 p4 pl fit p l);
+      first = λ p l.
+          rw (table-at (subjectIn file) 16 (p / 32) noSubject (omega arith), stored-at file p l, before-is file p (omega arith))
+          (first-right file bytes p1 p3 p4 pl fit p l);
+      no-more = rw all (and-true (and-true (none-after file 3) (none-after file 4)) (none-after file 5));
     }

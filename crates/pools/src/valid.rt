@@ -1,8 +1,10 @@
 // Whether a pool is valid for its owner in a model of n subjects.
 ghost use mathlib.Core.Path.{_≡_};
-ghost use Prim.Native.Nat.{_<_};
+ghost use mathlib.Core.Bool.{cond};
+ghost use lib.Dec.{ltb};
 ghost use Rattle.sets.specs.Below.{allBelow};
 ghost use Rattle.pools.specs.Sizes.{mostEntries};
+ghost use Rattle.pools.specs.Entries.{isBlankEntry};
 ghost use Rattle.pools.specs.Valid.{entryValid, placeValid, poolValid, isBlankPool};
 use super::Entry;
 use super::MOST_ENTRIES;
@@ -23,13 +25,11 @@ fn entry_valid(n: u8, e: Entry) -> bool
     )
 }
 
-// Place i: a valid entry if the pool has one there, else blank.
-fn place_valid(n: u8, p: Pool, i: usize) -> bool
-    requires { ⌜ i < mostEntries ⌝ }
-    ensures { λ r. ⌜ r ≡ placeValid n p i ⌝ }
+// What stands at place i of a pool with so many entries: a valid entry if the pool has one there, else blank.
+fn place_valid(n: u8, count: u8, i: usize, e: Entry) -> bool
+    ensures { λ r. ⌜ r ≡ cond (ltb i count) (entryValid n e) (isBlankEntry e) ⌝ }
 {
-    let e = p.entries[i];
-    if i < p.count as usize {
+    if i < count as usize {
         return entry_valid(n, e);
     }
     entries::is_blank_entry(e)
@@ -41,7 +41,7 @@ fn places_valid(n: u8, p: Pool) -> bool
 {
     let mut i: usize = 0;
     while i < MOST_ENTRIES {
-        if !place_valid(n, p, i) {
+        if !place_valid(n, p.count, i, p.entries[i]) {
             return false;
         }
         i += 1;

@@ -322,6 +322,18 @@ module _ {A : Type 0} where
   unfolding filled
   fill-end f z n i l g = let e : i ≡ n = omega arith in rw (e, sub-self, append-nil)
 
+  rest-filled : (f : ℕ → A) (z : A) (d i : ℕ) → ((k : ℕ) → i ≤ k → f k ≡ z) → table f i ++ replicate d z ≡ table f (i + d)
+  rest-filled f z zero i h = rw (append-nil, add-zero)
+  rest-filled f z (suc d) i h =
+      let e : i + suc d ≡ i + 1 + d = omega arith in
+      let next = rest-filled f z d (i + 1) (λ k l. h k (omega arith)) in
+      rw (e, ← next, table-more f i, h i (omega arith), append-assoc)
+
+  -- a loop that stops where only z would follow
+  pub fill-rest : (f : ℕ → A) (z : A) (n i : ℕ) → i ≤ n → ((k : ℕ) → i ≤ k → f k ≡ z) → filled f z n i ≡ table f n
+  unfolding filled
+  fill-rest f z n i l h = rest-filled f z (n - i) i h ∙ ap (table f) (omega arith)
+
   -- ---- a loop that changes the n places of l, from the first on: `changed f d l n i` has those below i changed
 
   pub length-changed : (f : ℕ → A → A) (d : A) (l : List A) (n i : ℕ) → length (changed f d l n i) ≡ n

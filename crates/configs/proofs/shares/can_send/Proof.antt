@@ -5,6 +5,7 @@ use native.Mathlib.Omega.{arith}
 use borrow.Author.Needs.{needs}
 use Rattle.sets.specs.Below.{someBelow}
 use Rattle.sets.proofs.Below.{some-start, some-more, some-found, some-end}
+use Rattle.model.specs.Records.{withExits}
 use Rattle.model.specs.Valid.{subjectAt}
 use Rattle.configs.specs.Subjects.{stateOf}
 use Rattle.configs.specs.Shares.{sendsTo, canSend}
@@ -44,12 +45,13 @@ loop-holds c =
     (there start, few start, search needs, some-start (sends (start .args .t1) (start .args .owner) (start .args .s)))
 
 returns : tie.Need-returns Inv-loop μ-loop
-unfolding canSend
+unfolding canSend withExits
 returns c =
     let a = c .before .before .before .before .before .before .before .args in
     sym (some-found (sends (a .t1) (a .owner) (a .s)) _ _ (c .before .before .before .loop-test .taken) (sym (c .before .sends-to .ensures) ∙ c .if1 .taken))
 
 loop-again : tie.Need-loop-again Inv-loop μ-loop
+unfolding withExits
 loop-again c =
     let inv = c .before .before .before .before .loop .inv in
     let a = c .before .before .before .before .before .before .before .args in

@@ -1,5 +1,20 @@
+use Prim.Native.Nat.{ℕ}
+use mathlib.Core.Path.{_≡_, refl, ap, _∙_}
+use mathlib.Core.Bool.{false, _||_}
+use mathlib.Core.Logic.{_⊎_, ⊎-elim}
 use borrow.Author.Needs.{needs}
+use denote.Enum.Declared.{tagOf}
+use lib.Dec.{eqb}
+use Rattle.sets.proofs.Tests.{not-both}
+use Rattle.model.specs.declared.State.{State}
+use Rattle.model.specs.declared.Subject as model-subject
+use Rattle.pools.specs.Pools.{withdrawnFrom}
+use Rattle.configs.specs.Subjects.{withPool}
+use Rattle.configs.specs.declared.Subject.{Subject}
+use Rattle.engine.specs.declared.Command.{Command}
+use Rattle.engine.specs.declared.Command.the-variants.{Do, Reserve, Deliver, Take, Run, Expire, Cancel, Tick}
 use Rattle.engine.specs.InPlace.{touchedAs}
+use Rattle.engine.proofs.Command.{the-type}
 use Rattle.engine.proofs.effects.touch.Statement.{statement}
 use Rattle.engine.proofs.effects.touch.Tie as tie
 
@@ -23,17 +38,29 @@ returns-5 : tie.Need-returns-5
 unfolding touchedAs
 returns-5 c = rw (c .enum-told5 .given .1)
 
-returns-6 : tie.Need-returns-6
+-- no other command is one of the two
+neither : (t : ℕ) → (eqb t 5 || eqb t 6) ≡ false → (t ≡ 5) ⊎ (t ≡ 6) → ⊥
+neither t n = ⊎-elim (λ e. not-both (ap (λ (x : ℕ). eqb x 5 || eqb x 6) e) n) (λ e. not-both (ap (λ (x : ℕ). eqb x 5 || eqb x 6) e) n)
+
+-- Expire and Cancel withdraw
+leaving : (owner : model-subject.Subject) (here : State) (s word : ℕ) (x : Subject) (k : Command) → (tagOf the-type k ≡ 5) ⊎ (tagOf the-type k ≡ 6)
+    → withPool (withdrawnFrom s (x .pool)) x ≡ touchedAs owner here s word x k
 unfolding touchedAs
-returns-6 c = rw (c .before .enum-told6 .given .1) (c .withdraw-at .ensures)
+leaving owner here s word x (Do t e w) h = absurd (neither 0 refl h)
+leaving owner here s word x (Reserve t) h = absurd (neither 1 refl h)
+leaving owner here s word x (Deliver t) h = absurd (neither 2 refl h)
+leaving owner here s word x (Take t e) h = absurd (neither 3 refl h)
+leaving owner here s word x (Run t) h = absurd (neither 4 refl h)
+leaving owner here s word x (Expire t) h = refl
+leaving owner here s word x (Cancel t) h = refl
+leaving owner here s word x Tick h = absurd (neither 7 refl h)
+
+returns-6 : tie.Need-returns-6
+returns-6 c = c .withdraw-at .ensures ∙ leaving _ _ _ _ _ _ (c .before .match .keys6)
 
 returns-7 : tie.Need-returns-7
 unfolding touchedAs
-returns-7 c = rw (c .before .enum-told7 .given .1) (c .withdraw-at2 .ensures)
-
-returns-8 : tie.Need-returns-8
-unfolding touchedAs
-returns-8 c = rw (c .enum-told8 .given .1)
+returns-7 c = rw (c .enum-told6 .given .1)
 
 pub touch-spec : {M : Type 1} → statement M
 touch-spec =
@@ -46,9 +73,6 @@ touch-spec =
     (λ c κs. search needs)
     (λ c. search needs)
     (λ c. search needs)
-    (λ c. search needs)
-    (λ c κs. search needs)
-    (λ c. search needs)
     (λ c κs. search needs)
     (λ c. search needs)
     returns
@@ -57,5 +81,4 @@ touch-spec =
     returns-4
     returns-5
     returns-6
-    returns-7
-    returns-8)
+    returns-7)

@@ -1,17 +1,20 @@
-use mathlib.Core.Path.{_≡_, refl, sym, ap, _∙_}
-use mathlib.Core.List.{List, _++_}
-use Prim.Native.Nat.{ℕ, _+_, _-_, _/_, _%_, _≤_, _<_}
+use mathlib.Core.Path.{_≡_, refl, sym, _∙_}
+use mathlib.Core.Bool.{Bool, true, false, cond}
+use mathlib.Core.List.{List}
+use Prim.Native.Nat.{ℕ, _-_, _/_, _%_, _≤_, _<_}
 use native.Mathlib.Omega.{arith}
 use borrow.Author.Needs.{needs}
-use borrow.Author.Tests.{ne-eqb, lt-ltb, le-ltb}
-use lib.ListN.{length, set, drop, length-set}
-use lib.Seq.{lt-length-set, drop-at, drop-drop}
-use Rattle.sets.specs.Below.{table}
-use Rattle.sets.proofs.Below.{length-table}
-use Rattle.model.specs.Valid.{subjectAt, stateAt}
+use borrow.Author.Tests.{ne-eqb, lt-ltb, le-ltb, ltb-true, ltb-false}
+use lib.Dec.{ltb}
+use lib.ListN.{length, getD, set, length-set}
+use lib.Seq.{lt-length-set}
+use Rattle.sets.proofs.Below.{table-at}
+use Rattle.model.specs.Valid.{noState, subjectAt, stateAt}
+use Rattle.model.specs.Views.{statesOf}
 use Rattle.model.specs.declared.Model.{Model}
+use Rattle.model.specs.declared.State.{State}
 use Rattle.exported.specs.Bytes.{ownByte, stateByte, modelByte, modelBytes}
-use Rattle.exported.proofs.ByteLaws.{begun, begun-start, begun-turn, begun-end, begun-short}
+use Rattle.exported.proofs.ByteLaws.{begun, begun-start, begun-turn, begun-end, begun-short, begun-at, begun-still, begun-on}
 use Rattle.exported.proofs.model_bytes.put_model.Statement.{statement}
 use Rattle.exported.proofs.model_bytes.put_model.Tie as tie
 
@@ -25,32 +28,36 @@ in-state : (m : Model) (j : ℕ) → 435 ≤ j → modelByte m j ≡ stateByte (
 unfolding modelByte
 in-state m j l = rw (ne-eqb j 0 (omega arith), le-ltb j 3 (omega arith), le-ltb j 435 l)
 
--- all before place j left out in two steps
-past : (i j : ℕ) (l : List ℕ) → i ≤ j → drop j l ≡ drop (j - i) (drop i l)
-past i j l h =
-    let e : j ≡ i + (j - i) = omega arith in
-    ap (λ (k : ℕ). drop k l) e ∙ sym (drop-drop (j - i) i l)
+-- byte k of a buffer whose first 435 bytes stand and whose others are those of the states
+abbrev further : List State → List ℕ → ℕ → ℕ
+further states old k = cond (ltb k 435) (getD old k 0) (stateByte (getD states ((k - 435) / 34) noState) ((k - 435) % 34))
 
--- a buffer in which i stores are done already, begun anew
-begun-on : (f : ℕ → ℕ) (old : List ℕ) (i j : ℕ) (now : List ℕ) → i ≤ j → now ≡ begun f old i → begun f now j ≡ begun f old j
-unfolding begun
-begun-on f old i j now h e =
-    let same : drop i now ≡ drop i old = ap (drop i) e ∙ drop-at (table f i) (drop i old) i (length-table f i) in
-    ap (λ (l : List ℕ). table f j ++ l) (past i j now h ∙ ap (drop (j - i)) same ∙ sym (past i j old h))
+-- after the subjects and with the model's states it is the model's byte
+further-is : (m : Model) (states : List State) (old now : List ℕ) (j k : ℕ)
+    → 435 ≤ j → k < 17843 → states ≡ statesOf m → now ≡ begun (modelByte m) old j → further states now k ≡ modelByte m k
+further-is m states old now j k h l s e = go (ltb k 435) refl
+  where
+    go : (b : Bool) → ltb k 435 ≡ b → further states now k ≡ modelByte m k
+    go true t =
+        let below : k < 435 = ltb-true k 435 t in
+        rw (t, e) (begun-at (modelByte m) old j k (omega arith))
+    go false t =
+        let from : 435 ≤ k = ltb-false k 435 t in
+        rw (t, s, table-at (stateAt m) 512 ((k - 435) / 34) noState (omega arith)) (sym (in-state m k from))
 
 abbrev Inv-loop : tie.InvT-loop
-Inv-loop room₀ m j₀ room j =
+Inv-loop room₀ m states j₀ room j =
     (3 ≤ j) × (j ≤ 435) × (17843 ≤ length room₀) × (length room ≡ length room₀) × (room ≡ begun (modelByte m) room₀ j)
 
 abbrev μ-loop : tie.MeasureT-loop
-μ-loop room₀ m j₀ room j = 435 - j
+μ-loop room₀ m states j₀ room j = 435 - j
 
 abbrev Inv-loop2 : tie.InvT-loop2
-Inv-loop2 room₀ m j₀ room j =
-    (435 ≤ j) × (j ≤ 17843) × (17843 ≤ length room₀) × (length room ≡ length room₀) × (room ≡ begun (modelByte m) room₀ j)
+Inv-loop2 room₀ states j₀ room j =
+    (435 ≤ j) × (j ≤ 17843) × (17843 ≤ length room₀) × (length room ≡ length room₀) × (room ≡ begun (further states room₀) room₀ j)
 
 abbrev μ-loop2 : tie.MeasureT-loop2
-μ-loop2 room₀ m j₀ room j = 17843 - j
+μ-loop2 room₀ states j₀ room j = 17843 - j
 
 returns : tie.Need-returns Inv-loop μ-loop Inv-loop2 μ-loop2
 unfolding modelBytes
@@ -75,7 +82,8 @@ three c =
 
 loop-holds : tie.Need-loop-holds Inv-loop μ-loop Inv-loop2 μ-loop2
 loop-holds c =
-    (search needs, search needs, rw (length-set, length-set, length-set) (c .before .before .if1 .left), refl, three c ∙ sym (begun-on _ _ 3 3 _ (omega arith) (three c)))
+    let begin = c .before in
+    (search needs, search needs, rw (length-set, length-set, length-set) (begin .before .before .if1 .left), refl, three begin ∙ sym (begun-on _ _ _ 3 3 _ (omega arith) (three begin) (λ k l. refl)))
 
 loop-again : tie.Need-loop-again Inv-loop μ-loop Inv-loop2 μ-loop2
 loop-again c =
@@ -87,14 +95,14 @@ loop-again c =
 loop2-holds : tie.Need-loop2-holds Inv-loop μ-loop Inv-loop2 μ-loop2
 loop2-holds c =
     let inv = c .before .loop .inv in
-    (c .loop-test .left, search needs, omega (arith, inv .2, inv .3), refl, inv .4 ∙ sym (begun-on _ _ _ _ _ (omega arith) (inv .4)))
+    (c .loop-test .left, search needs, omega (arith, inv .2, inv .3), refl, begun-still _ _ _ (omega (arith, inv .1, inv .2, inv .3)) (λ k l. rw (lt-ltb k 435 (omega (arith, inv .1)))))
 
 loop2-again : tie.Need-loop2-again Inv-loop μ-loop Inv-loop2 μ-loop2
 loop2-again c =
     let at = c .before .before .before in
     let inv = at .loop2 .inv in
     let below = c .before .before .loop2-test .taken in
-    (search needs, search needs, inv .2, search needs, begun-turn _ _ _ _ _ (omega (arith, inv .2, below)) (inv .4) (c .state-byte .ensures ∙ sym (in-state _ _ (inv .0))))
+    (search needs, search needs, inv .2, search needs, begun-turn _ _ _ _ _ (omega (arith, inv .2, below)) (inv .4) (rw (le-ltb _ 435 (inv .0)) (c .state-byte .ensures)))
 
 same-length : tie.Need-same-length Inv-loop μ-loop Inv-loop2 μ-loop2
 same-length c =
@@ -105,11 +113,13 @@ unfolding modelBytes
 returns-2 c =
     let second = c .before in
     let first = second .before .before in
+    let begin = first .before .before in
     let inv = second .loop2 .inv in
+    let subjects = first .loop .inv in
     inv .4
-    ∙ begun-on _ _ _ _ _ (omega arith) (first .loop .inv .4)
-    ∙ begun-on _ _ 3 _ _ (omega arith) (three (first .before))
-    ∙ begun-end _ _ _ _ (inv .1) (c .loop2-test .left) (first .before .before .before .if1 .left)
+    ∙ begun-on _ _ _ _ _ _ (omega (arith, subjects .1, inv .0)) (subjects .4) (λ k l. further-is _ _ _ _ _ k (second .before .loop-test .left) (omega (arith, inv .1)) (first .before .states .ensures) (subjects .4))
+    ∙ begun-on _ _ _ 3 _ _ (omega (arith, inv .0)) (three begin) (λ k l. refl)
+    ∙ begun-end _ _ _ _ (inv .1) (c .loop2-test .left) (begin .before .before .if1 .left)
 
 pub put-model-spec : {M : Type 1} → statement M
 put-model-spec =
@@ -125,6 +135,7 @@ put-model-spec =
     slice-write-room-2
     (λ c κs. search needs)
     slice-write-room-3
+    (λ c κs. search needs)
     loop-holds
     (λ c. search needs)
     (λ c. search needs)

@@ -1,6 +1,5 @@
 use mathlib.Core.Path.{_≡_, sym, ap₂, _∙_}
 use mathlib.Core.Bool.{true}
-use mathlib.Core.List.{[]}
 use Prim.Native.Nat.{_≤_, _-_}
 use native.Mathlib.Omega.{arith}
 use borrow.Author.Tests.{not-true, not-false}
@@ -9,6 +8,7 @@ use lib.Dec.{eqb}
 use lib.ListN.{getD}
 use Rattle.sets.specs.Below.{allBelow, sumBelow}
 use Rattle.sets.proofs.Below.{all-start, all-more, all-stop, all-end, sum-start, sum-turn, sum-end}
+use Rattle.model.specs.Records.{blankStored}
 use Rattle.model.specs.Decoded.{exitsIn, exitsNamedIn, exitsInPlace}
 use Rattle.model.proofs.DecodedLaws.{exits-few, places-few, exits-at, exits-named-is}
 use borrow.Author.Needs.{needs}
@@ -30,7 +30,7 @@ place-few c =
     omega (arith, places-few (now (c .before .before .before .args .file)) (c .before .before .shared-slice-known .given) (c .loop .p))
 
 exits-is : (c : tie.In-loop Inv-loop μ-loop)
-    → getD (c .before .before .before .before .args .t2) (c .before .loop .p) record { kind = 0; exits = 0; sender = 0; typ = 0; after = 0; timeout = 0; cancel = 0; receivers = 0; exit = [] } .exits
+    → getD (c .before .before .before .before .args .t2) (c .before .loop .p) blankStored .exits
     ≡ exitsIn (now (c .before .before .before .before .args .file)) (c .before .loop .p)
 exits-is c = exits-at _ _ _ _ (c .before .before .before .before .pre) (c .loop-test .taken)
 

@@ -1,58 +1,65 @@
-use Prim.Native.Nat.{_≤_, _-_}
-use mathlib.Core.Path.{_≡_, sym, _∙_}
-use mathlib.Core.Bool.{true, _&&_}
-use borrow.Author.Tests.{not-true, not-false}
+use Prim.Native.Nat.{ℕ}
+use mathlib.Core.Path.{_≡_, refl, sym, ap, _∙_}
+use mathlib.Core.Bool.{Bool, _&&_}
+use mathlib.Core.List.{List}
+use lib.Dec.{eqb}
+use denote.Ref.{now}
 use borrow.Author.Needs.{needs}
-use Rattle.sets.specs.Below.{allBelow}
-use Rattle.sets.proofs.Tests.{and-true}
-use Rattle.sets.proofs.Below.{all-start, all-more, all-stop, all-end}
+use borrow.Author.Tests.{not-true, not-false}
+use Rattle.model.specs.Records.{withExits}
 use Rattle.model.specs.Rules.{stateFits, stateReaches}
-use Rattle.model.specs.Valid.{exitValid}
+use Rattle.model.specs.Valid.{unpacked, storedValid}
+use Rattle.model.specs.declared.Exit.{Exit}
+use Rattle.model.specs.declared.State.{State}
+use Rattle.model.specs.declared.Stored.{Stored}
 use Rattle.model.proofs.valid.state_valid.Statement.{statement}
 use Rattle.model.proofs.valid.state_valid.Tie as tie
 
-abbrev Inv-loop : tie.InvT-loop
-Inv-loop n states st x₀ x = (x ≤ 8) × (allBelow (exitValid n states st) x ≡ true)
+-- the fields are right
+abbrev fits : ℕ → ℕ → State → Bool
+fits n states st = stateFits st && stateReaches n states st
 
-abbrev μ-loop : tie.MeasureT-loop
-μ-loop n states st x₀ x = 8 - x
+-- whatever the exits are
+any-exits : (n states : ℕ) (st : Stored) (es fs : List Exit) → fits n states (withExits st es) ≡ fits n states (withExits st fs)
+unfolding stateFits stateReaches withExits
+any-exits n states st es fs = refl
 
--- the fields
-own : (c : tie.After-both Inv-loop μ-loop) → (stateFits (c .before .before .before .args .st) && stateReaches (c .before .before .before .args .n) (c .before .before .before .args .states) (c .before .before .before .args .st)) ≡ c .both .result
-own c = sym (rw (c .both .ensures, c .before .before .state-fits .ensures, c .before .state-reaches .ensures))
+abbrev start : tie.After-both2 → tie.Start
+start c = c .before .before .before .before .before .before .before .before .before .before
 
-returns : tie.Need-returns Inv-loop μ-loop
+-- fields and place are judged
+own : (c : tie.After-both2)
+    → let a = start c .args in
+    (fits (a .n) (a .states) (unpacked (now (a .targets)) (now (a .senders)) (now (a .types)) (a .st)) && eqb (a .st .first) (a .place)) ≡ c .both2 .result
+own c =
+    let a = start c .args in
+    let fit = c .before .before .before .before in
+    let st = fit .before .with-exits .ensures in
+    let e = c .before .before .both .ensures
+    ∙ (λ i. fit .state-fits .ensures i && c .before .before .before .state-reaches .ensures i)
+    ∙ ap (fits (a .n) (a .states)) st
+    ∙ any-exits _ _ _ _ _ in
+    sym (c .both2 .ensures ∙ ap (λ (b : Bool). b && eqb (a .st .first) (a .place)) e)
+
+returns : tie.Need-returns
+unfolding storedValid
 returns c = rw (own (c .before) ∙ not-true _ (c .if1 .taken))
 
-loop-holds : tie.Need-loop-holds Inv-loop μ-loop
-loop-holds c = (search needs, all-start _)
-
-returns-2 : tie.Need-returns-2 Inv-loop μ-loop
-returns-2 c =
-    let e = c .before .before .before .before in
-    rw (own (e .before) ∙ not-false _ (e .if1 .left))
-    (sym (all-stop _ _ _ (c .before .before .loop-test .taken) (sym (c .before .exit-valid .ensures) ∙ not-true _ (c .if2 .taken))))
-
-loop-again : tie.Need-loop-again Inv-loop μ-loop
-loop-again c = (search needs, all-more _ _ (c .before .before .before .loop .inv .1) (sym (c .before .exit-valid .ensures) ∙ not-false _ (c .if2 .left)))
-
-returns-3 : tie.Need-returns-3 Inv-loop μ-loop
-returns-3 c = sym (and-true (own (c .before .before .before) ∙ not-false _ (c .before .before .if1 .left)) (all-end _ _ _ (c .before .loop .inv .0) (c .loop-test .left) (c .before .loop .inv .1)))
+returns-2 : tie.Need-returns-2
+unfolding storedValid
+returns-2 c = c .exits-valid .ensures ∙ sym (rw (own (c .before .before) ∙ not-false _ (c .before .if1 .left)))
 
 pub state-valid-spec : {M : Type 1} → statement M
 state-valid-spec =
     tie.close
     (tie.spec
-    Inv-loop
-    μ-loop
     (λ c κs. search needs)
     (λ c κs. search needs)
+    (λ c κs. search needs)
+    (λ c κs. search needs)
+    (λ c κs. search needs)
+    (λ c. search needs)
     (λ c κs. search needs)
     returns
-    loop-holds
     (λ c κs. search needs)
-    returns-2
-    (λ c. search needs)
-    (λ c. search needs)
-    loop-again
-    returns-3)
+    returns-2)

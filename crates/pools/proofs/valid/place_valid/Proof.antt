@@ -1,24 +1,18 @@
 use borrow.Author.Tests.{lt-ltb, le-ltb}
 use borrow.Author.Needs.{needs}
-use Rattle.pools.specs.Valid.{placeValid}
 use Rattle.pools.proofs.valid.place_valid.Statement.{statement}
 use Rattle.pools.proofs.valid.place_valid.Tie as tie
 
 returns : tie.Need-returns
-unfolding placeValid
 returns c = rw (lt-ltb _ _ (c .before .if1 .taken)) (c .entry-valid .ensures)
 
 returns-2 : tie.Need-returns-2
-unfolding placeValid
 returns-2 c = rw (le-ltb _ _ (c .before .if1 .left)) (c .is-blank-entry .ensures)
 
 pub place-valid-spec : {M : Type 1} → statement M
 place-valid-spec =
     tie.close
     (tie.spec
-    (λ c. search needs)
-    (λ c. search needs)
-    (λ c. search needs)
     (λ c κs. search needs)
     returns
     (λ c κs. search needs)

@@ -19,10 +19,12 @@ loop-holds : tie.Need-loop-holds Inv-loop μ-loop
 loop-holds c = (search needs, all-start _)
 
 returns : tie.Need-returns Inv-loop μ-loop
-returns c = sym (all-stop _ _ _ (c .before .before .loop-test .taken) (sym (c .before .place-valid .ensures) ∙ not-true _ (c .if1 .taken)))
+unfolding placeValid
+returns c = sym (all-stop _ _ _ (c .before .before .before .loop-test .taken) (sym (c .before .place-valid .ensures) ∙ not-true _ (c .if1 .taken)))
 
 loop-again : tie.Need-loop-again Inv-loop μ-loop
-loop-again c = (search needs, all-more _ _ (c .before .before .before .loop .inv .1) (sym (c .before .place-valid .ensures) ∙ not-false _ (c .if1 .left)))
+unfolding placeValid
+loop-again c = (search needs, all-more _ _ (c .before .before .before .before .loop .inv .1) (sym (c .before .place-valid .ensures) ∙ not-false _ (c .if1 .left)))
 
 returns-2 : tie.Need-returns-2 Inv-loop μ-loop
 returns-2 c = sym (all-end _ _ _ (c .before .loop .inv .0) (c .loop-test .left) (c .before .loop .inv .1))
@@ -34,6 +36,8 @@ places-valid-spec =
     Inv-loop
     μ-loop
     loop-holds
+    (λ c. search needs)
+    (λ c. search needs)
     (λ c κs. search needs)
     returns
     (λ c. search needs)

@@ -3,7 +3,7 @@ ghost use mathlib.Core.Path.{_≡_};
 ghost use mathlib.Core.List.{_++_, _∷_, []};
 ghost use Prim.Native.Nat.{_+_, _≤_};
 ghost use lib.ListN.{length};
-ghost use Rattle.controller.specs.Text.{decimal, pasted, rowText};
+ghost use Rattle.controller.specs.Text.{decimal, pasted};
 
 // Puts a number and the byte after it into the buffer from place p on, and answers the place behind.
 pub(crate) fn put(out: &mut [u8], p: usize, n: u64, after: u8) -> usize

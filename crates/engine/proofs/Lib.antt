@@ -13,5 +13,7 @@ pub mod OwnLaws
 pub mod GrownLaws
 pub mod PlaceLaws
 pub mod StoreLaws
+pub mod BesideLaws
+pub mod WalkLaws
 pub mod TurnLaws
 pub mod TapeLaws

@@ -1,22 +1,20 @@
 // What the accepted commands do to the configuration, Reserve aside.
 ghost use mathlib.Core.Path.{_≡_};
-ghost use mathlib.Core.Bool.{true};
-ghost use Prim.Native.Nat.{_+_, _<_, _≤_, min};
+ghost use Prim.Native.Nat.{_+_, _<_, min};
+ghost use lib.ListN.{getD};
 ghost use Rattle.model.specs.Sizes.{mostSubjects};
 ghost use Rattle.model.specs.Valid.{exitAt};
-ghost use Rattle.pools.specs.Pools.{withdrawnFrom};
-ghost use Rattle.configs.specs.Subjects.{withPool};
-ghost use Rattle.engine.specs.Effects.{targetOf, wantedAt, ranAs, started, deliveredAs};
-ghost use Rattle.engine.specs.InPlace.{tookAs, ownAs, handles, waiters, reached, touchedAs, arrivedAs};
+ghost use Rattle.configs.specs.declared.Subject.{Subject};
+ghost use Rattle.engine.specs.Effects.{targetOf, wantedAt, ranAs, started};
+ghost use Rattle.engine.specs.InPlace.{tookAs, ownAs, handles, waiters, reached, wakes, touchedAs, withCount, arrivedAs};
 use super::Command;
 use super::marks;
 use super::reserving;
-use configs::Config;
 use configs::Subject;
 use model::Exit;
 use model::MOST_EXITS;
-use model::MOST_SUBJECTS;
 use model::State;
+use pools::Pool;
 use sets::Found;
 
 // Exit e of a state, blank past the last place.
@@ -34,9 +32,9 @@ pub(crate) fn exit_of(here: State, e: u8) -> Exit
     }
 }
 
-// Where the command leads from here; Reserve and Tick lead nowhere.
-pub(crate) fn target(here: State, x: Subject, k: Command) -> u8
-    ensures { λ r. ⌜ r ≡ targetOf here x k ⌝ }
+// Where the command leads a subject with this pool from here; Reserve and Tick lead nowhere.
+pub(crate) fn target(here: State, p: Pool, k: Command) -> u8
+    ensures { λ r. ⌜ ((x : Subject) → x .pool ≡ p → r ≡ targetOf here x k) ⌝ }
 {
     match k {
         Command::Do {
@@ -47,7 +45,7 @@ pub(crate) fn target(here: State, x: Subject, k: Command) -> u8
         Command::Reserve { subject: _ } => 0,
         Command::Deliver { subject: _ } => exit_of(here, 0).target,
         Command::Take { subject: _, exit } => exit_of(here, exit).target,
-        Command::Run { subject: _ } => exit_of(here, marks::run_exit(here, x)).target,
+        Command::Run { subject: _ } => exit_of(here, marks::run_exit(here, p)).target,
         Command::Expire { subject: _ } => here.timeout,
         Command::Cancel { subject: _ } => here.cancel,
         Command::Tick => 0,
@@ -77,11 +75,12 @@ pub(crate) fn handles(k: Command) -> bool
     }
 }
 
-// The numbers of the subject after a command: it comes to a state, with Do's word; at Reserve its mask has grown. Pool and marks stay.
-pub(crate) fn arrive(t: u8, end: bool, mask: u16, me: Subject, k: Command) -> Subject
-    ensures { λ r. ⌜ r ≡ arrivedAs t end mask me k ⌝ }
+// The numbers of a subject with so many entries after a command: it comes to a state, with Do's word; at Reserve its mask has grown.
+pub(crate) fn arrive(t: u8, end: bool, mask: u16, me: Subject, held: u8, k: Command) -> Subject
+    ensures { λ r. ⌜ r ≡ arrivedAs t end mask (withCount held me) k ⌝ }
 {
     let mut x = me;
+    x.pool.count = held;
     match k {
         Command::Do {
             subject: _,
@@ -130,21 +129,21 @@ fn take_own(here: State, end: bool, me: Subject, e: u8) -> Subject
 fn run_own(n: u8, here: State, end: bool, me: Subject) -> Subject
     ensures { λ r. ⌜ r ≡ ranAs n here end me ⌝ }
 {
-    let e = marks::run_exit(here, me);
+    let e = marks::run_exit(here, me.pool);
     let x = marks::mark(n, here, me);
     x.enter(exit_of(here, e).target, end)
 }
 
-// The subject after a command that changes it alone.
+// The subject after a command that changes its pool or its marks.
 pub(crate) fn own(n: u8, here: State, end: bool, me: Subject, k: Command) -> Subject
     ensures { λ r. ⌜ r ≡ ownAs n here end me k ⌝ }
 {
     match k {
         Command::Do {
             subject: _,
-            exit,
+            exit: _,
             word: _,
-        } => arrive(exit_of(here, exit).target, end, 0, me, k),
+        } => me,
         Command::Reserve { subject: _ } => me,
         Command::Deliver { subject: _ } => me,
         Command::Take { subject: _, exit } => take_own(here, end, me, exit),
@@ -156,7 +155,7 @@ pub(crate) fn own(n: u8, here: State, end: bool, me: Subject, k: Command) -> Sub
 }
 
 // Asleep or ended properly, a receiver starts at its initial state; its marks and pool stay.
-fn start(initial: u8, x: Subject) -> Subject
+pub(crate) fn start(initial: u8, x: Subject) -> Subject
     ensures { λ r. ⌜ r ≡ started initial x ⌝ }
 {
     if !sets::either(x.mode == 0, x.mode == 2) {
@@ -168,24 +167,6 @@ fn start(initial: u8, x: Subject) -> Subject
     y.waited = 0;
     y.word = 0;
     y.mask = 0;
-    y
-}
-
-// One receiver as s delivers: reservations become messages, and it starts.
-fn deliver_to(initial: u8, s: u8, word: u32, x: Subject) -> Subject
-    ensures { λ r. ⌜ r ≡ deliveredAs true initial s word x ⌝ }
-{
-    let mut y = x;
-    y.pool = pools::deliver(x.pool, s, word);
-    start(initial, y)
-}
-
-// One subject as s withdraws.
-fn withdraw_at(s: u8, x: Subject) -> Subject
-    ensures { λ r. ⌜ r ≡ withPool (withdrawnFrom s (x .pool)) x ⌝ }
-{
-    let mut y = x;
-    y.pool = pools::withdraw(x.pool, s);
     y
 }
 
@@ -251,7 +232,61 @@ pub(crate) fn reached(number: u8, here: State, mask: u16, k: Command) -> u16
     }
 }
 
-// A subject that a command of s reaches, s having the word: it answers, gets a message, or is withdrawn from.
+// The pool of a subject that a command of s reaches, s having the word: it gives a place, gets a message, or is withdrawn from.
+pub(crate) fn touch_pool(
+    owner: model::Subject,
+    here: State,
+    s: u8,
+    word: u32,
+    mode: u8,
+    mark: u32,
+    p: Pool,
+    k: Command,
+) -> Pool
+    ensures { λ r. ⌜ ((x : Subject) → x .mode ≡ mode → getD (x .closed) s 0 ≡ mark → x .pool ≡ p → r ≡ touchedAs owner here s word x k .pool) ⌝ }
+{
+    match k {
+        Command::Do {
+            subject: _,
+            exit: _,
+            word: _,
+        } => p,
+        Command::Reserve { subject: _ } => reserving::serve(owner, here, s, mode, mark, p),
+        Command::Deliver { subject: _ } => pools::deliver(p, s, word),
+        Command::Take {
+            subject: _,
+            exit: _,
+        } => p,
+        Command::Run { subject: _ } => p,
+        Command::Expire { subject: _ } | Command::Cancel { subject: _ } => pools::withdraw(p, s),
+        Command::Tick => p,
+    }
+}
+
+// Whether those whom the command reaches may start.
+pub(crate) fn wakes(k: Command) -> bool
+    ensures { λ r. ⌜ r ≡ wakes k ⌝ }
+{
+    match k {
+        Command::Do {
+            subject: _,
+            exit: _,
+            word: _,
+        } => false,
+        Command::Reserve { subject: _ } => false,
+        Command::Deliver { subject: _ } => true,
+        Command::Take {
+            subject: _,
+            exit: _,
+        } => false,
+        Command::Run { subject: _ } => false,
+        Command::Expire { subject: _ } => false,
+        Command::Cancel { subject: _ } => false,
+        Command::Tick => false,
+    }
+}
+
+// A subject that a command of s reaches, s having the word.
 pub(crate) fn touch(
     owner: model::Subject,
     here: State,
@@ -263,20 +298,11 @@ pub(crate) fn touch(
     requires { ⌜ s < mostSubjects ⌝ }
     ensures { λ r. ⌜ r ≡ touchedAs owner here s word x k ⌝ }
 {
-    match k {
-        Command::Do {
-            subject: _,
-            exit: _,
-            word: _,
-        } => x,
-        Command::Reserve { subject: _ } => reserving::serve(owner, here, s, x),
-        Command::Deliver { subject: _ } => deliver_to(owner.initial, s, word, x),
-        Command::Take {
-            subject: _,
-            exit: _,
-        } => x,
-        Command::Run { subject: _ } => x,
-        Command::Expire { subject: _ } | Command::Cancel { subject: _ } => withdraw_at(s, x),
-        Command::Tick => x,
+    let mark = x.closed[s as usize];
+    let mut y = x;
+    if wakes(k) {
+        y = start(owner.initial, x);
     }
+    y.pool = touch_pool(owner, here, s, word, x.mode, mark, x.pool, k);
+    y
 }

@@ -1,9 +1,11 @@
 // The states that look after the own pool: close, open and ask-empty.
 ghost use mathlib.Core.Path.{_≡_};
+ghost use Rattle.configs.specs.declared.Subject.{Subject};
 ghost use Rattle.engine.specs.Effects.{runExit, markFor, markAt, withMarks, marking};
 use configs::Subject;
 use model::MOST_SUBJECTS;
 use model::State;
+use pools::Pool;
 use sets::both;
 use sets::either;
 
@@ -66,10 +68,10 @@ pub(crate) fn mark(n: u8, here: State, x: Subject) -> Subject
     with_marks(n, here, x)
 }
 
-// Ask-empty leaves by exit 1 if an entry matches, else, as close and open do, by exit 0.
-pub(crate) fn run_exit(here: State, x: Subject) -> u8
-    ensures { λ r. ⌜ r ≡ runExit here x ⌝ }
+// Ask-empty leaves by exit 1 if an entry of the subject's pool matches, else, as close and open do, by exit 0.
+pub(crate) fn run_exit(here: State, p: Pool) -> u8
+    ensures { λ r. ⌜ ((x : Subject) → x .pool ≡ p → r ≡ runExit here x) ⌝ }
 {
-    let found = pools::count(x.pool, here.sender, here.typ) != 0;
+    let found = pools::count(p, here.sender, here.typ) != 0;
     if both(here.kind == 6, found) { 1 } else { 0 }
 }

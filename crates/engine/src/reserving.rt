@@ -1,11 +1,16 @@
 // Reserve: each receiver that has no place yet answers, from the lowest number.
 ghost use mathlib.Core.Path.{_≡_};
 ghost use mathlib.Core.Bool.{cond};
-ghost use Prim.Native.Nat.{_<_};
+ghost use Prim.Native.Nat.{ℕ, _<_};
+ghost use lib.ListN.{getD};
 ghost use Rattle.model.specs.Sizes.{mostSubjects};
-ghost use Rattle.sets.specs.Masks.{withBit};
+ghost use Rattle.sets.specs.Masks.{bit, withBit};
+ghost use Rattle.model.specs.declared.Subject as model-subject;
+ghost use Rattle.pools.specs.Pools.{held};
+ghost use Rattle.pools.specs.Rows.{hasRoom};
+ghost use Rattle.configs.specs.declared.Subject.{Subject};
 ghost use Rattle.engine.specs.InPlace.{servedAs, heardAs, answerTo};
-ghost use Rattle.engine.specs.Reserve.{isClosed, replyOf, withPlace, noted};
+ghost use Rattle.engine.specs.Reserve.{replyOf, withPlace, noted};
 use super::Command;
 use super::Places;
 use super::Reply;
@@ -14,67 +19,62 @@ use configs::Answer;
 use configs::Subject;
 use model::State;
 use pools::Entry;
+use pools::Pool;
 
-// The queue is closed for this sender and type.
-fn is_closed(x: Subject, sender: u8, typ: u8) -> bool
-    requires { ⌜ sender < mostSubjects ⌝ }
-    ensures { λ r. ⌜ r ≡ isClosed x sender typ ⌝ }
+// The marks of a sender say that the queue is closed for this type.
+fn is_closed(mark: u32, typ: u8) -> bool
+    ensures { λ r. ⌜ r ≡ bit mark typ ⌝ }
 {
-    let mark = x.closed[sender as usize];
     if typ < 32 {
         return (mark >> typ) % 2 == 1;
     }
     false
 }
 
-// What a receiver answers: ended improperly, else closed, else full, else there is a place.
-fn reply_of(own: model::Subject, x: Subject, sender: u8, typ: u8) -> Reply
-    requires { ⌜ sender < mostSubjects ⌝ }
-    ensures { λ r. ⌜ r ≡ replyOf own x sender typ ⌝ }
+// What a receiver in this mode answers, with these marks for the sender, whose pool has room or not: ended improperly, else
+// closed, else full, else there is a place.
+fn reply_of(mode: u8, mark: u32, typ: u8, room: bool) -> Reply
+    ensures { λ r. ⌜ ((own : model-subject.Subject) (x : Subject) (sender : ℕ) → x .mode ≡ mode → getD (x .closed) sender 0 ≡ mark → hasRoom own (held (x .pool)) sender typ ≡ room → r ≡ replyOf own x sender typ) ⌝ }
 {
-    if x.mode == 3 {
+    if mode == 3 {
         return Reply::Improper;
     }
-    if is_closed(x, sender, typ) {
+    if is_closed(mark, typ) {
         return Reply::Closed;
     }
-    if !pools::has_room(own, x.pool, sender, typ) {
+    if !room {
         return Reply::Full;
     }
     Reply::Placed
 }
 
 // Where there is a place, a reservation is put at the end of the pool.
-fn with_place(reply: Reply, sender: u8, typ: u8, x: Subject) -> Subject
-    ensures { λ r. ⌜ r ≡ withPlace reply sender typ x ⌝ }
+fn with_place(reply: Reply, sender: u8, typ: u8, p: Pool) -> Pool
+    ensures { λ r. ⌜ ((x : Subject) → x .pool ≡ p → r ≡ withPlace reply sender typ x .pool) ⌝ }
 {
     match reply {
-        Reply::Placed => {
-            let mut y = x;
-            y.pool = pools::append(
-                x.pool,
-                Entry {
-                    sender: sender,
-                    typ: typ,
-                    message: false,
-                    content: 0,
-                },
-            );
-            y
-        }
-        Reply::Improper => x,
-        Reply::Closed => x,
-        Reply::Full => x,
+        Reply::Placed => pools::append(
+            p,
+            Entry {
+                sender: sender,
+                typ: typ,
+                message: false,
+                content: 0,
+            },
+        ),
+        Reply::Improper => p,
+        Reply::Closed => p,
+        Reply::Full => p,
     }
 }
 
-// One receiver as s asks for a place.
-pub(crate) fn serve(owner: model::Subject, here: State, s: u8, x: Subject) -> Subject
-    requires { ⌜ s < mostSubjects ⌝ }
-    ensures { λ r. ⌜ r ≡ servedAs owner here s x ⌝ }
+// The pool of a receiver as s asks for a place.
+pub(crate) fn serve(owner: model::Subject, here: State, s: u8, mode: u8, mark: u32, p: Pool) -> Pool
+    ensures { λ r. ⌜ ((x : Subject) → x .mode ≡ mode → getD (x .closed) s 0 ≡ mark → x .pool ≡ p → r ≡ servedAs owner here s x .pool) ⌝ }
 {
     let typ = effects::exit_of(here, 0).typ;
-    with_place(reply_of(owner, x, s, typ), s, typ, x)
+    let room = pools::has_room(owner, p, s, typ);
+    with_place(reply_of(mode, mark, typ, room), s, typ, p)
 }
 
 // The mask with r, where it has given a place.
@@ -150,7 +150,9 @@ pub(crate) fn heard(
         } => places,
         Command::Reserve { subject: _ } => {
             let typ = effects::exit_of(here, 0).typ;
-            note(reply_of(owner, x, s, typ), r, places)
+            let mark = x.closed[s as usize];
+            let room = pools::has_room(owner, x.pool, s, typ);
+            note(reply_of(x.mode, mark, typ, room), r, places)
         }
         Command::Deliver { subject: _ } => places,
         Command::Take {

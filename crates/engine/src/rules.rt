@@ -3,8 +3,9 @@ ghost use mathlib.Core.Path.{_≡_};
 ghost use mathlib.Core.Bool.{true, false};
 ghost use Prim.Native.Nat.{ℕ, _<_};
 ghost use lib.Dec.{eqb};
-ghost use Rattle.configs.specs.Subjects.{at};
+ghost use Rattle.configs.specs.Subjects.{at, withPool};
 ghost use Rattle.configs.specs.declared.Config.{Config};
+ghost use Rattle.configs.specs.declared.Subject.{Subject};
 ghost use Rattle.engine.specs.Commands.{names, subjectOf, isCode};
 ghost use Rattle.engine.specs.Effects.{wantedAt};
 ghost use Rattle.engine.specs.Rules.{missesPlace, isNothing, someImproper, asksReceivers, kindRules, firstNumber};
@@ -17,6 +18,7 @@ use configs::Config;
 use configs::Subject;
 use model::MOST_SUBJECTS;
 use model::State;
+use pools::Pool;
 use sets::Found;
 use sets::both;
 
@@ -41,12 +43,12 @@ pub(crate) fn some_improper(here: State, c: Config) -> bool
     false
 }
 
-// No message matches the exit.
-fn no_message(here: State, exit: u8, me: Subject) -> bool
-    ensures { λ r. ⌜ r ≡ isNothing (wantedAt here exit me) ⌝ }
+// No message in the subject's pool matches the exit.
+fn no_message(here: State, exit: u8, p: Pool) -> bool
+    ensures { λ r. ⌜ ((x : Subject) → x .pool ≡ p → r ≡ isNothing (wantedAt here exit x)) ⌝ }
 {
     let wanted = effects::exit_of(here, exit);
-    let found = pools::first_message(me.pool, wanted.sender, wanted.typ);
+    let found = pools::first_message(p, wanted.sender, wanted.typ);
     match found {
         Found::At(_) => false,
         Found::Nothing => true,
@@ -87,8 +89,8 @@ fn refuse_deliver(here: State, mask: u16, improper: bool) -> u8
 }
 
 // Take.
-fn refuse_take(here: State, exit: u8, me: Subject) -> u8
-    ensures { λ r. ⌜ ((c : Config) (s : ℕ) → at c s ≡ me → r ≡ firstNumber (kindRules here c (Take s exit))) ⌝ }
+fn refuse_take(here: State, exit: u8, p: Pool) -> u8
+    ensures { λ r. ⌜ ((c : Config) (s : ℕ) → at c s .pool ≡ p → r ≡ firstNumber (kindRules here c (Take s exit))) ⌝ }
 {
     if here.kind != 3 {
         return 13;
@@ -96,7 +98,7 @@ fn refuse_take(here: State, exit: u8, me: Subject) -> u8
     if here.exits <= exit {
         return 14;
     }
-    if no_message(here, exit, me) { 15 } else { 0 }
+    if no_message(here, exit, p) { 15 } else { 0 }
 }
 
 // Run.
@@ -155,8 +157,8 @@ pub(crate) fn asks_receivers(k: Command) -> bool
 }
 
 // The rules of the command's kind: 13 to 20.
-fn refuse_kind(here: State, me: Subject, improper: bool, k: Command) -> u8
-    ensures { λ r. ⌜ ((c : Config) → (names k ≡ true → at c (subjectOf k) ≡ me) → (asksReceivers k ≡ true → someImproper here c ≡ improper) → r ≡ firstNumber (kindRules here c k)) ⌝ }
+fn refuse_kind(here: State, me: Subject, p: Pool, improper: bool, k: Command) -> u8
+    ensures { λ r. ⌜ ((c : Config) → (names k ≡ true → at c (subjectOf k) ≡ withPool p me) → (asksReceivers k ≡ true → someImproper here c ≡ improper) → r ≡ firstNumber (kindRules here c k)) ⌝ }
 {
     match k {
         Command::Do {
@@ -166,7 +168,7 @@ fn refuse_kind(here: State, me: Subject, improper: bool, k: Command) -> u8
         } => refuse_do(here, exit),
         Command::Reserve { subject: _ } => refuse_reserve(here),
         Command::Deliver { subject: _ } => refuse_deliver(here, me.mask, improper),
-        Command::Take { subject: _, exit } => refuse_take(here, exit, me),
+        Command::Take { subject: _, exit } => refuse_take(here, exit, p),
         Command::Run { subject: _ } => refuse_run(here),
         Command::Expire { subject: _ } => refuse_expire(here, me.waited, me.mask, improper),
         Command::Cancel { subject: _ } => refuse_cancel(here),
@@ -174,18 +176,19 @@ fn refuse_kind(here: State, me: Subject, improper: bool, k: Command) -> u8
     }
 }
 
-// The refusal of a command by the fault that was found, its code, the state in which its subject is, the subject, and
-// whether a receiver has ended improperly.
+// The refusal of a command by the fault that was found, its code, the state in which its subject is, the subject, its pool,
+// and whether a receiver has ended improperly.
 pub(crate) fn refuse(
     fault: u8,
     code: u8,
     n: u8,
     here: State,
     me: Subject,
+    p: Pool,
     improper: bool,
     k: Command,
 ) -> u8
-    ensures { λ r. ⌜ ((c : Config) → (eqb fault 8 ≡ false → isCode code ≡ true → names k ≡ true → subjectOf k < n → at c (subjectOf k) ≡ me) → (asksReceivers k ≡ true → someImproper here c ≡ improper) → r ≡ firstNumber (turnRules fault code n here c k)) ⌝ }
+    ensures { λ r. ⌜ ((c : Config) → (eqb fault 8 ≡ false → isCode code ≡ true → names k ≡ true → subjectOf k < n → at c (subjectOf k) ≡ withPool p me) → (asksReceivers k ≡ true → someImproper here c ≡ improper) → r ≡ firstNumber (turnRules fault code n here c k)) ⌝ }
 {
     if fault == 8 {
         return 8;
@@ -204,5 +207,5 @@ pub(crate) fn refuse(
             return 12;
         }
     }
-    refuse_kind(here, me, improper, k)
+    refuse_kind(here, me, p, improper, k)
 }

@@ -1,9 +1,9 @@
 // Whether a model is valid: every rule kept, all other room zero.
 ghost use mathlib.Core.Path.{_≡_};
-ghost use Prim.Native.Nat.{_<_, _≤_};
+ghost use Prim.Native.Nat.{_<_};
 ghost use lib.Dec.{eqb};
 ghost use Rattle.sets.specs.Below.{allBelow};
-ghost use Rattle.model.specs.Sizes.{mostExits, mostExitsInAll, mostRows};
+ghost use Rattle.model.specs.Sizes.{mostExits, mostRows};
 ghost use Rattle.model.specs.Records.{withExits};
 ghost use Rattle.model.specs.Valid.{exitNo, exitsFrom, unpacked, exitValid, storedValid, isBlankStored, noneAfter, rowKey, rowAscends, rowValid, subjectOwn, subjectValid, startRight, valid};
 ghost use Rattle.model.specs.Views.{viewOf, statesOf};

@@ -7,13 +7,12 @@ use native.Mathlib.Nat.{le-trans}
 use native.Mathlib.Omega.{arith}
 use borrow.Author.Tests.{ltb-true, ltb-false, leb-true, eqb-true, lt-ltb, le-ltb}
 use lib.Dec.{ltb, leb, eqb}
-use lib.ListN.{length}
 use Rattle.sets.specs.Below.{allBelow, sumBelow}
 use Rattle.sets.specs.Groups.{placeIn}
 use Rattle.sets.specs.Tests.{within, noneFrom}
 use Rattle.sets.proofs.Tests.{and-both, within-is, choose}
 use Rattle.sets.proofs.Below.{all-each}
-use Rattle.sets.proofs.Groups.{length-in-places, in-places-at}
+use Rattle.sets.proofs.Groups.{in-places-at}
 use Rattle.sets.proofs.Masks.{mask-below}
 use Rattle.model.proofs.BlankLaws.{none-at}
 use Rattle.model.specs.Records.{blankExit, blankRow, withExits}
@@ -413,11 +412,6 @@ exitsOf m p = stateAt m p .exits
 pub stored-after : (m : Model) (p : ℕ) → stateAt m p .after ≡ storedAt m p .after
 unfolding withExits
 stored-after m p = refl
-
--- a state has room for 8 exits
-pub exits-length : (m : Model) (p : ℕ) → length (stateAt m p .exit) ≡ 8
-unfolding withExits exitsFrom
-exits-length m p = length-in-places 8 _ _ _
 
 -- a state that has an exit is one that its subject has
 pub has-state : (m : Model) → GoodModel m → (p x : ℕ) → p < 512 → x < stateAt m p .exits → p % 32 < subjectAt m (p / 32) .states

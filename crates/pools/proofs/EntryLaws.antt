@@ -1,18 +1,19 @@
--- What delivering and withdrawing do to a list of entries: to the reservations of each sender, to the rows and to validity.
-use mathlib.Core.Path.{_≡_, refl, sym, ap, _∙_}
+-- Which entries match; and what delivering and withdrawing do to a list of entries: to the reservations of each sender, to the rows and to validity.
+use mathlib.Core.Path.{_≡_, refl, sym, ap, ap₂, _∙_}
 use mathlib.Core.Logic.{_≢_}
-use mathlib.Core.Bool.{Bool, true, false, _&&_, _||_, not}
+use mathlib.Core.Bool.{Bool, true, false, _&&_, _||_, not, cond}
 use mathlib.Core.List.{List, [], map}
-use Prim.Native.Nat.{ℕ, _≤_}
+use Prim.Native.Nat.{ℕ, _+_, _*_, _≤_, _<_}
 use native.Mathlib.Nat.{le-trans}
 use native.Mathlib.Omega.{arith}
-use borrow.Author.Tests.{ne-eqb, eqb-true, leb-true, le-leb}
-use lib.Dec.{eqb, ltb}
+use borrow.Author.Tests.{eq-eqb, ne-eqb, eqb-true, eqb-false, leb-true, le-leb}
+use lib.Bits.{bitOr, or-add-and, or-lt, or-block, or-zero-r, and-mask}
+use lib.Dec.{eqb, ltb, lit<}
 use lib.ListN.{length, length-map}
 use Rattle.sets.specs.Lists.{allOf, passing, counted}
 use Rattle.sets.proofs.Tests.{and-true, and-both, and-false, not-both, is-false, choose}
 use Rattle.sets.proofs.Below.{all-each, all-by}
-use Rattle.sets.proofs.Lists.{all-of-passing, all-of-weaker, all-of-map, all-of-each, counted-map, counted-same, counted-passing, counted-weaker, counted-bound, length-passing, none-counted, length-padded}
+use Rattle.sets.proofs.Lists.{all-of-passing, all-of-weaker, all-of-map, all-of-each, counted-map, counted-same, counted-passing, counted-weaker, counted-bound, length-passing, passing-all, none-counted, length-padded}
 use Rattle.model.specs.Rules.{any}
 use Rattle.model.specs.Sizes.{mostRows}
 use Rattle.model.specs.Valid.{rowAt}
@@ -25,6 +26,55 @@ use Rattle.pools.specs.Valid.{contentRight, senderThere, typeThere, entr
 use Rattle.pools.specs.declared.Entry.{Entry}
 use Rattle.pools.specs.declared.Pool.{Pool}
 use Rattle.pools.proofs.PoolLaws.{held-fits, held-pooled}
+
+-- ---- sender and type as one number of two bytes
+
+-- a byte or all ones is all ones
+or-ones : (a : ℕ) → a < 256 → bitOr a 255 ≡ 255
+or-ones a h = omega (arith, or-add-and a 255, and-mask a 8)
+
+-- the or of two numbers of two bytes: each byte by itself
+or-bytes : (a b c d : ℕ) → a < 256 → c < 256 → bitOr (a + 256 * b) (c + 256 * d) ≡ bitOr a c + 256 * bitOr b d
+or-bytes a b c d h l = ap₂ bitOr (turned a b) (turned c d) ∙ or-block 8 b d a c h l ∙ sym (turned (bitOr a c) (bitOr b d))
+  where
+    turned : (x y : ℕ) → x + 256 * y ≡ y * 256 + x
+    turned x y = omega arith
+
+-- they are equal exactly where both bytes are
+eqb-bytes : (a b c d : ℕ) → a < 256 → c < 256 → eqb (a + 256 * b) (c + 256 * d) ≡ (eqb c a && eqb d b)
+eqb-bytes a b c d h l = go (eqb c a) (eqb d b) refl refl
+  where
+    go : (x y : Bool) → eqb c a ≡ x → eqb d b ≡ y → eqb (a + 256 * b) (c + 256 * d) ≡ (x && y)
+    go true true p q = eq-eqb (a + 256 * b) (c + 256 * d) (omega (arith, eqb-true c a p, eqb-true d b q))
+    go true false p q = ne-eqb (a + 256 * b) (c + 256 * d) (λ e. eqb-false d b q (omega arith))
+    go false y p q = ne-eqb (a + 256 * b) (c + 256 * d) (λ e. eqb-false c a p (omega arith))
+
+-- what is wanted is what is there, with all ones where any is wanted
+or-fits : (wanted there : ℕ) → there < 256 → eqb wanted (bitOr there (cond (eqb wanted any) 255 0)) ≡ fits wanted there
+or-fits wanted there h = go (eqb wanted any) refl
+  where
+    go : (b : Bool) → eqb wanted any ≡ b → eqb wanted (bitOr there (cond b 255 0)) ≡ (b || eqb wanted there)
+    go true e = eq-eqb _ _ (eqb-true wanted any e ∙ sym (or-ones there h))
+    go false e = ap (eqb wanted) (or-zero-r there)
+
+-- sender and type of an entry, looked at as one number
+pub or-matches : (s t : ℕ) (e : Entry) → s < 256 → e .sender < 256 → e .typ < 256
+    → eqb (bitOr (e .sender + 256 * e .typ) (cond (eqb s any) 255 0 + 256 * cond (eqb t any) 255 0)) (s + 256 * t) ≡ matches s t e
+unfolding matches
+or-matches s t e k h l =
+    ap (λ (x : ℕ). eqb x (s + 256 * t)) (or-bytes (e .sender) (e .typ) (cond (eqb s any) 255 0) (cond (eqb t any) 255 0) h (ones-lt s))
+    ∙ eqb-bytes (bitOr (e .sender) (cond (eqb s any) 255 0)) _ s t (or-lt 8 _ _ h (ones-lt s)) k
+    ∙ ap₂ _&&_ (or-fits s (e .sender) h) (or-fits t (e .typ) l)
+  where
+    ones-lt : (x : ℕ) → cond (eqb x any) 255 0 < 256
+    ones-lt x = choose (λ (y : ℕ). y < 256) (eqb x any) (λ _. lit< tt) (λ _. lit< tt)
+
+-- where any sender and any type will do, every entry matches
+pub counted-any : (s t : ℕ) (es : List Entry) → (eqb s any && eqb t any) ≡ true → counted (matches s t) es ≡ length es
+unfolding matches
+counted-any s t es h =
+    let b = and-both (eqb s any) (eqb t any) h in
+    sym (length-passing (matches s t) es) ∙ ap length (passing-all (matches s t) es (all-of-each _ es (λ e. rw (b .left, b .right))))
 
 -- ---- one entry
 

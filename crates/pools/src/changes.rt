@@ -102,18 +102,19 @@ pub fn withdraw(p: Pool, sender: u8) -> Pool
 {
     let n = searches::used(p);
     let mut q = empty_pool();
+    let mut at: usize = 0;
     let mut j: usize = 0;
     while j < n {
         let e = p.entries[j];
         if !entries::reserved_by(e, sender, 255) {
-            let at = q.count as usize;
             q.entries[at] = e;
-            q.count = q.count + 1;
+            at += 1;
         }
         j += 1;
     }
-    if q.count as usize == n {
+    if at == n {
         return p;
     }
+    q.count = at as u8;
     q
 }

@@ -1,5 +1,8 @@
 // One entry: what it matches, and what it becomes.
 ghost use mathlib.Core.Path.{_≡_};
+ghost use mathlib.Core.Bool.{cond};
+ghost use lib.Dec.{eqb};
+ghost use Rattle.model.specs.Rules.{any};
 ghost use Rattle.pools.specs.Entries.{isBlankEntry, fits, matches, isMessage, reservedBy, delivered};
 use super::Entry;
 use sets::both;
@@ -22,11 +25,20 @@ pub(crate) fn fitting(wanted: u8, there: u8) -> bool
     either(wanted == 255, wanted == there)
 }
 
-// The entry is from the sender and of the type, 255 for any.
+// All ones where any is wanted, else none.
+fn freed(wanted: u8) -> u8
+    ensures { λ r. ⌜ r ≡ cond (eqb wanted any) 255 0 ⌝ }
+{
+    if wanted == 255 { 255 } else { 0 }
+}
+
+// The entry is from the sender and of the type, 255 for any: both are looked at as one number.
 pub(crate) fn matching(e: Entry, sender: u8, typ: u8) -> bool
     ensures { λ r. ⌜ r ≡ matches sender typ e ⌝ }
 {
-    both(fitting(sender, e.sender), fitting(typ, e.typ))
+    let there = sets::word(e.sender, e.typ);
+    let free = sets::word(freed(sender), freed(typ));
+    there | free == sets::word(sender, typ)
 }
 
 // A message that matches.

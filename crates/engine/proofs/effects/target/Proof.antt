@@ -5,35 +5,35 @@ use Rattle.engine.proofs.effects.target.Tie as tie
 
 returns : tie.Need-returns
 unfolding targetOf
-returns c = rw (c .before .before .k .given .1, c .exit-of .ensures)
+returns c x o = rw (c .before .before .k .given .1, c .exit-of .ensures)
 
 returns-2 : tie.Need-returns-2
 unfolding targetOf
-returns-2 c = rw (c .enum-told .given .1)
+returns-2 c x o = rw (c .enum-told .given .1)
 
 returns-3 : tie.Need-returns-3
 unfolding targetOf
-returns-3 c = rw (c .before .enum-told2 .given .1, c .exit-of2 .ensures)
+returns-3 c x o = rw (c .before .enum-told2 .given .1, c .exit-of2 .ensures)
 
 returns-4 : tie.Need-returns-4
 unfolding targetOf
-returns-4 c = rw (c .before .before .k2 .given .1, c .exit-of3 .ensures)
+returns-4 c x o = rw (c .before .before .k2 .given .1, c .exit-of3 .ensures)
 
 returns-5 : tie.Need-returns-5
 unfolding targetOf
-returns-5 c = rw (c .before .before .enum-told3 .given .1, c .exit-of4 .ensures, c .before .run-exit .ensures)
+returns-5 c x o = rw (c .before .before .enum-told3 .given .1, c .exit-of4 .ensures, c .before .run-exit .ensures x o)
 
 returns-6 : tie.Need-returns-6
 unfolding targetOf
-returns-6 c = rw (c .enum-told4 .given .1)
+returns-6 c x o = rw (c .enum-told4 .given .1)
 
 returns-7 : tie.Need-returns-7
 unfolding targetOf
-returns-7 c = rw (c .enum-told5 .given .1)
+returns-7 c x o = rw (c .enum-told5 .given .1)
 
 returns-8 : tie.Need-returns-8
 unfolding targetOf
-returns-8 c = rw (c .enum-told6 .given .1)
+returns-8 c x o = rw (c .enum-told6 .given .1)
 
 pub target-spec : {M : Type 1} → statement M
 target-spec =

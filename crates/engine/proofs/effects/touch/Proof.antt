@@ -1,66 +1,30 @@
-use Prim.Native.Nat.{ℕ}
-use mathlib.Core.Path.{_≡_, refl, ap, _∙_}
-use mathlib.Core.Bool.{false, _||_}
-use mathlib.Core.Logic.{_⊎_, ⊎-elim}
+use mathlib.Core.Path.{_≡_, refl, sym, _∙_}
+use mathlib.Core.Bool.{cond}
+use mathlib.Core.Logic.{⊎-elim}
 use borrow.Author.Needs.{needs}
-use denote.Enum.Declared.{tagOf}
-use lib.Dec.{eqb}
-use Rattle.sets.proofs.Tests.{not-both}
-use Rattle.model.specs.declared.State.{State}
-use Rattle.model.specs.declared.Subject as model-subject
-use Rattle.pools.specs.Pools.{withdrawnFrom}
-use Rattle.configs.specs.Subjects.{withPool}
-use Rattle.configs.specs.declared.Subject.{Subject}
-use Rattle.engine.specs.declared.Command.{Command}
-use Rattle.engine.specs.declared.Command.the-variants.{Do, Reserve, Deliver, Take, Run, Expire, Cancel, Tick}
-use Rattle.engine.specs.InPlace.{touchedAs}
-use Rattle.engine.proofs.Command.{the-type}
+use Rattle.engine.specs.Effects.{started}
+use Rattle.engine.specs.InPlace.{wakes}
+use Rattle.engine.proofs.BesideLaws.{whole-touched}
 use Rattle.engine.proofs.effects.touch.Statement.{statement}
 use Rattle.engine.proofs.effects.touch.Tie as tie
 
+-- whom the command lets start has started
+starts : (c : tie.Joined1)
+    → let a = c .before .before .before .args in
+    c .if1 .y ≡ cond (wakes (a .k)) (started (a .owner .initial) (a .t5)) (a .t5)
+starts c =
+    let a = c .before .before .before .args in
+    let woken = c .before .wakes .ensures in
+    ⊎-elim
+    (λ w. w .2 ∙ w .1 .ensures ∙ sym (rw (sym woken ∙ w .0 .taken)))
+    (λ w. w .1 ∙ sym (rw (sym woken ∙ w .0 .left)))
+    (c .if1 .came)
+
 returns : tie.Need-returns
-unfolding touchedAs
-returns c = rw (c .enum-told .given .1)
-
-returns-2 : tie.Need-returns-2
-unfolding touchedAs
-returns-2 c = rw (c .before .enum-told2 .given .1) (c .serve .ensures)
-
-returns-3 : tie.Need-returns-3
-unfolding touchedAs
-returns-3 c = rw (c .before .enum-told3 .given .1) (c .deliver-to .ensures)
-
-returns-4 : tie.Need-returns-4
-unfolding touchedAs
-returns-4 c = rw (c .enum-told4 .given .1)
-
-returns-5 : tie.Need-returns-5
-unfolding touchedAs
-returns-5 c = rw (c .enum-told5 .given .1)
-
--- no other command is one of the two
-neither : (t : ℕ) → (eqb t 5 || eqb t 6) ≡ false → (t ≡ 5) ⊎ (t ≡ 6) → ⊥
-neither t n = ⊎-elim (λ e. not-both (ap (λ (x : ℕ). eqb x 5 || eqb x 6) e) n) (λ e. not-both (ap (λ (x : ℕ). eqb x 5 || eqb x 6) e) n)
-
--- Expire and Cancel withdraw
-leaving : (owner : model-subject.Subject) (here : State) (s word : ℕ) (x : Subject) (k : Command) → (tagOf the-type k ≡ 5) ⊎ (tagOf the-type k ≡ 6)
-    → withPool (withdrawnFrom s (x .pool)) x ≡ touchedAs owner here s word x k
-unfolding touchedAs
-leaving owner here s word x (Do t e w) h = absurd (neither 0 refl h)
-leaving owner here s word x (Reserve t) h = absurd (neither 1 refl h)
-leaving owner here s word x (Deliver t) h = absurd (neither 2 refl h)
-leaving owner here s word x (Take t e) h = absurd (neither 3 refl h)
-leaving owner here s word x (Run t) h = absurd (neither 4 refl h)
-leaving owner here s word x (Expire t) h = refl
-leaving owner here s word x (Cancel t) h = refl
-leaving owner here s word x Tick h = absurd (neither 7 refl h)
-
-returns-6 : tie.Need-returns-6
-returns-6 c = c .withdraw-at .ensures ∙ leaving _ _ _ _ _ _ (c .before .match .keys6)
-
-returns-7 : tie.Need-returns-7
-unfolding touchedAs
-returns-7 c = rw (c .enum-told6 .given .1)
+returns c =
+    let joined = c .before .before in
+    let x = joined .before .before .before .args .t5 in
+    whole-touched _ _ _ _ x _ _ _ (starts joined) (c .touch-pool .ensures x refl refl refl)
 
 pub touch-spec : {M : Type 1} → statement M
 touch-spec =
@@ -69,16 +33,6 @@ touch-spec =
     (λ c. search needs)
     (λ c. search needs)
     (λ c κs. search needs)
-    (λ c. search needs)
     (λ c κs. search needs)
-    (λ c. search needs)
-    (λ c. search needs)
     (λ c κs. search needs)
-    (λ c. search needs)
-    returns
-    returns-2
-    returns-3
-    returns-4
-    returns-5
-    returns-6
-    returns-7)
+    returns)

@@ -6,15 +6,15 @@ use Rattle.engine.proofs.marks.run_exit.Tie as tie
 
 returns : tie.Need-returns
 unfolding runExit
-returns c =
+returns c x e =
     let at = c .before .before .before in
-    rw (← at .count .ensures, sym (c .before .both .ensures) ∙ c .if1 .taken)
+    rw (e, ← at .count .ensures, sym (c .before .both .ensures) ∙ c .if1 .taken)
 
 returns-2 : tie.Need-returns-2
 unfolding runExit
-returns-2 c =
+returns-2 c x e =
     let at = c .before .before .before in
-    rw (← at .count .ensures, sym (c .before .both .ensures) ∙ c .if1 .left)
+    rw (e, ← at .count .ensures, sym (c .before .both .ensures) ∙ c .if1 .left)
 
 pub run-exit-spec : {M : Type 1} → statement M
 run-exit-spec = tie.close (tie.spec (λ c κs. search needs) (λ c κs. search needs) returns returns-2)

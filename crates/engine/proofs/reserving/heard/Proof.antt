@@ -1,3 +1,4 @@
+use mathlib.Core.Path.{refl, sym}
 use borrow.Author.Needs.{needs}
 use Rattle.engine.specs.InPlace.{heardAs}
 use Rattle.engine.proofs.reserving.heard.Statement.{statement}
@@ -9,7 +10,13 @@ returns c = rw (c .enum-told .given .1)
 
 returns-2 : tie.Need-returns-2
 unfolding heardAs
-returns-2 c = rw (c .before .before .before .enum-told2 .given .1, c .note .ensures, c .before .reply-of .ensures, c .before .before .exit-of .ensures)
+returns-2 c =
+    let reply = c .before in
+    let room = reply .before in
+    let typ = room .before .before .before in
+    let x = typ .before .before .before .args .t5 in
+    let gives = reply .reply-of .ensures _ x _ refl refl (sym (room .has-room .ensures)) in
+    rw (typ .before .enum-told2 .given .1, c .note .ensures, gives, typ .exit-of .ensures)
 
 returns-3 : tie.Need-returns-3
 unfolding heardAs
@@ -39,6 +46,9 @@ pub heard-spec : {M : Type 1} → statement M
 heard-spec =
     tie.close
     (tie.spec
+    (λ c. search needs)
+    (λ c. search needs)
+    (λ c κs. search needs)
     (λ c. search needs)
     (λ c. search needs)
     (λ c κs. search needs)

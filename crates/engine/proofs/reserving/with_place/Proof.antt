@@ -5,19 +5,19 @@ use Rattle.engine.proofs.reserving.with_place.Tie as tie
 
 returns : tie.Need-returns
 unfolding withPlace
-returns c = rw (c .before .enum-told .given .1, c .append .ensures)
+returns c x e = rw (c .before .enum-told .given .1, e, c .append .ensures)
 
 returns-2 : tie.Need-returns-2
 unfolding withPlace
-returns-2 c = rw (c .enum-told2 .given .1)
+returns-2 c x e = rw (c .enum-told2 .given .1, e)
 
 returns-3 : tie.Need-returns-3
 unfolding withPlace
-returns-3 c = rw (c .enum-told3 .given .1)
+returns-3 c x e = rw (c .enum-told3 .given .1, e)
 
 returns-4 : tie.Need-returns-4
 unfolding withPlace
-returns-4 c = rw (c .enum-told4 .given .1)
+returns-4 c x e = rw (c .enum-told4 .given .1, e)
 
 pub with-place-spec : {M : Type 1} → statement M
 with-place-spec =

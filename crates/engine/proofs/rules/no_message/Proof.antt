@@ -4,14 +4,14 @@ use Rattle.engine.proofs.rules.no_message.Statement.{statement}
 use Rattle.engine.proofs.rules.no_message.Tie as tie
 
 returns : tie.Need-returns
-returns c =
+returns c x e =
     let at = c .before .before in
-    rw (sym (at .before .exit-of .ensures), sym (at .first-message .ensures), c .enum-told .given .1)
+    rw (e, sym (at .before .exit-of .ensures), sym (at .first-message .ensures), c .enum-told .given .1)
 
 returns-2 : tie.Need-returns-2
-returns-2 c =
+returns-2 c x e =
     let at = c .before .before in
-    rw (sym (at .before .exit-of .ensures), sym (at .first-message .ensures), c .enum-told2 .given .1)
+    rw (e, sym (at .before .exit-of .ensures), sym (at .first-message .ensures), c .enum-told2 .given .1)
 
 pub no-message-spec : {M : Type 1} → statement M
 no-message-spec =

@@ -17,7 +17,7 @@ returns-3 c d =
     (λ own ends. c .refuse-deliver .ensures d _ (ap (λ (x : Subject). x .mask) (own refl)) (ends refl))
 
 returns-4 : tie.Need-returns-4
-returns-4 c d = rw (c .before .before .k2 .given .1) (λ own ends. c .refuse-take .ensures d _ (own refl))
+returns-4 c d = rw (c .before .before .k2 .given .1) (λ own ends. c .refuse-take .ensures d _ (ap (λ (x : Subject). x .pool) (own refl)))
 
 returns-5 : tie.Need-returns-5
 returns-5 c d = rw (c .before .enum-told3 .given .1) (λ own ends. c .refuse-run .ensures d _)

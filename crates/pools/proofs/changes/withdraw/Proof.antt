@@ -1,7 +1,6 @@
-use Prim.Native.Nat.{_+_, _≤_, _-_}
-use mathlib.Core.Path.{_≡_, refl, sym, ap, _∙_}
-use mathlib.Core.Bool.{not}
-use mathlib.Core.List.{[]}
+use Prim.Native.Nat.{ℕ, _+_, _≤_, _<_, _-_}
+use mathlib.Core.Path.{_≡_, refl, sym, ap, ap₂, _∙_}
+use mathlib.Core.Bool.{Bool, not}
 use mathlib.Core.Logic.{⊎-elim}
 use native.Mathlib.Omega.{arith}
 use borrow.Author.Tests.{eq-eqb, ne-eqb}
@@ -12,23 +11,30 @@ use Rattle.sets.specs.Lists.{passing}
 use Rattle.model.specs.Rules.{any}
 use Rattle.pools.specs.Entries.{reservedBy}
 use Rattle.pools.specs.Pools.{held, pooled, reservations, withdrawnFrom}
+use Rattle.pools.specs.declared.Entry.{Entry}
+use Rattle.pools.specs.declared.Pool.{Pool}
 use Rattle.sets.proofs.Arrays.{length-mapped}
-use Rattle.pools.proofs.PoolLaws.{held-fits, count-pooled, count-withdrawn, store-is, passing-turn}
+use Rattle.pools.proofs.PoolLaws.{held-fits, count-withdrawn, store-is, passing-turn}
 use Rattle.pools.proofs.changes.withdraw.Statement.{statement}
 use Rattle.pools.proofs.changes.withdraw.Tie as tie
 
+-- the entries of q, and so many of them
+abbrev stored : Pool → ℕ → Pool
+stored q n = record { entries = q .entries; count = n }
+
 abbrev Inv-loop : tie.InvT-loop
-Inv-loop sender p n q₀ j₀ q j = (n ≤ 16) × (j ≤ n) × (q .count ≤ j) × (q ≡ pooled (passing (λ e. not (reservedBy sender any e)) (take j (held p))))
+Inv-loop sender p n q₀ at₀ j₀ q at j =
+    (n ≤ 16) × (j ≤ n) × (at ≤ j) × (stored q at ≡ pooled (passing (λ e. not (reservedBy sender any e)) (take j (held p))))
 
 abbrev μ-loop : tie.MeasureT-loop
-μ-loop sender p n q₀ j₀ q j = n - j
+μ-loop sender p n q₀ at₀ j₀ q at j = n - j
 
 loop-holds : tie.Need-loop-holds Inv-loop μ-loop
-unfolding passing
+unfolding passing pooled
 loop-holds c =
     let p = c .before .before .args .t1 in
     let k : length (p .entries) ≡ 16 = search length-mapped in
-    (omega (arith, c .before .used .ensures, held-fits p), search needs, omega (arith, count-pooled [] (c .empty-pool .ensures)), c .empty-pool .ensures)
+    (omega (arith, c .before .used .ensures, held-fits p), search needs, search needs, ap (λ (q : Pool). stored q 0) (c .empty-pool .ensures))
 
 loop-again : tie.Need-loop-again Inv-loop μ-loop
 loop-again c =
@@ -37,20 +43,24 @@ loop-again c =
     let u = at .before .before .used .ensures in
     let inv = at .loop .inv in
     let l = c .before .before .before .loop-test .taken in
-    let turn = passing-turn (a .t1) (omega (arith, u, inv .0)) (at .loop .q) (at .loop .j) (omega (arith, u, l)) (λ e. not (reservedBy (a .sender) any e)) _ (ap not (c .before .reserved-by .ensures)) (inv .3) in (
+    let fits : length (held (a .t1)) ≤ 16 = omega (arith, u, inv .0) in
+    let here : at .loop .j < length (held (a .t1)) = omega (arith, u, l) in
+    let stays : Entry → Bool = λ e. not (reservedBy (a .sender) any e) in
+    let kept = ap not (c .before .reserved-by .ensures) in
+    let turn = passing-turn (a .t1) fits (stored (at .loop .q) (at .loop .at)) (at .loop .j) here stays _ kept (inv .3) in (
       search needs,
       search needs,
-      ⊎-elim (λ w. rw (w .1) (omega (arith, inv .2))) (λ w. rw (w .1) (omega (arith, inv .2))) (c .if1 .came),
+      ⊎-elim (λ w. rw (w .2) (omega (arith, inv .2))) (λ w. rw (w .2) (omega (arith, inv .2))) (c .if1 .came),
       ⊎-elim
-          (λ w. w .1 ∙ store-is _ _ _ refl (omega (arith, inv .0, inv .2, l)) ∙ (rw (w .0 .taken) at turn))
-          (λ w. w .1 ∙ (rw (w .0 .left) at turn))
+          (λ w. ap₂ stored (w .1) (w .2) ∙ store-is _ _ _ refl (omega (arith, inv .0, inv .2, l)) ∙ (rw (w .0 .taken) at turn))
+          (λ w. ap₂ stored (w .1) (w .2) ∙ (rw (w .0 .left) at turn))
           (c .if1 .came),
     )
 
 -- after the last turn
 ended : (c : tie.After-loop Inv-loop μ-loop)
     → let a = c .before .before .before .before .args in
-    c .before .loop .q ≡ pooled (passing (λ e. not (reservedBy (a .sender) any e)) (held (a .t1)))
+    stored (c .before .loop .q) (c .before .loop .at) ≡ pooled (passing (λ e. not (reservedBy (a .sender) any e)) (held (a .t1)))
 ended c =
     let at = c .before .before .before in
     rw (take-all (c .before .loop .j) (held (at .before .args .t1)) (omega (arith, at .used .ensures, c .loop-test .left))) at (c .before .loop .inv .3)
@@ -58,7 +68,7 @@ ended c =
 -- the reservations that left and the entries that stayed
 counts : (c : tie.After-loop Inv-loop μ-loop)
     → let a = c .before .before .before .before .args in
-    reservations (a .sender) any (held (a .t1)) + c .before .loop .q .count ≡ c .before .before .before .used .result
+    reservations (a .sender) any (held (a .t1)) + c .before .loop .at ≡ c .before .before .before .used .result
 counts c =
     let at = c .before .before .before in
     count-withdrawn _ _ (ended c) ∙ sym (at .used .ensures)
@@ -68,6 +78,11 @@ unfolding withdrawnFrom
 returns c =
     let a = c .before .before .before .before .before .args in
     rw (eq-eqb (reservations (a .sender) any (held (a .t1))) 0 (omega (arith, counts (c .before), c .if2 .taken)))
+
+cast-q : tie.Need-cast-q Inv-loop μ-loop
+cast-q c =
+    let inv = c .before .before .loop .inv in
+    omega (arith, inv .0, inv .1, inv .2)
 
 returns-2 : tie.Need-returns-2 Inv-loop μ-loop
 unfolding withdrawnFrom
@@ -92,8 +107,7 @@ withdraw-spec =
     (λ c. search needs)
     (λ c. search needs)
     (λ c. search needs)
-    (λ c. search needs)
     loop-again
-    (λ c. search needs)
     returns
+    cast-q
     returns-2)

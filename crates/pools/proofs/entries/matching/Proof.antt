@@ -1,11 +1,17 @@
 use borrow.Author.Needs.{needs}
-use Rattle.pools.specs.Entries.{matches}
+use Rattle.pools.proofs.EntryLaws.{or-matches}
 use Rattle.pools.proofs.entries.matching.Statement.{statement}
 use Rattle.pools.proofs.entries.matching.Tie as tie
 
 returns : tie.Need-returns
-unfolding matches
-returns c = rw (c .both .ensures, c .before .fitting2 .ensures, c .before .before .fitting .ensures)
+returns c =
+    let f = c .before .before in
+    let w = f .before .before in
+    let a = w .before .args in
+    rw (c .word3 .ensures, c .before .word2 .ensures, f .freed2 .ensures, f .before .freed .ensures, w .word .ensures)
+    (or-matches (a .sender) (a .typ) (a .e) (search needs) (search needs) (search needs))
 
 pub matching-spec : {M : Type 1} → statement M
-matching-spec = tie.close (tie.spec (λ c κs. search needs) (λ c κs. search needs) (λ c κs. search needs) returns)
+matching-spec =
+    tie.close
+    (tie.spec (λ c κs. search needs) (λ c κs. search needs) (λ c κs. search needs) (λ c κs. search needs) (λ c κs. search needs) returns)

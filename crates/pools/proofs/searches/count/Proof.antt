@@ -1,5 +1,5 @@
-use Prim.Native.Nat.{_+_, _≤_, _-_}
-use mathlib.Core.Path.{_≡_, refl, ap, _∙_}
+use Prim.Native.Nat.{_+_, _≤_, _<_, _-_}
+use mathlib.Core.Path.{_≡_, refl, sym, ap, _∙_}
 use native.Mathlib.Omega.{arith}
 use borrow.Author.Needs.{needs}
 use lib.ListN.{length, take, length-take}
@@ -9,6 +9,7 @@ use Rattle.sets.proofs.Lists.{counted-bound}
 use Rattle.pools.specs.Entries.{matches}
 use Rattle.pools.specs.Pools.{held}
 use Rattle.sets.proofs.Arrays.{length-mapped}
+use Rattle.pools.proofs.EntryLaws.{counted-any}
 use Rattle.pools.proofs.PoolLaws.{held-fits, count-turn}
 use Rattle.pools.proofs.searches.count.Statement.{statement}
 use Rattle.pools.proofs.searches.count.Tie as tie
@@ -22,32 +23,46 @@ abbrev μ-loop : tie.MeasureT-loop
 loop-holds : tie.Need-loop-holds Inv-loop μ-loop
 unfolding counted
 loop-holds c =
-    let k : length (c .before .args .t1 .entries) ≡ 16 = search length-mapped in
-    (omega (arith, c .used .ensures, held-fits (c .before .args .t1)), search needs, refl)
+    let p = c .before .before .before .args .t1 in
+    let k : length (p .entries) ≡ 16 = search length-mapped in
+    (omega (arith, c .before .before .used .ensures, held-fits p), search needs, refl)
 
 turn : (c : tie.After-hit Inv-loop μ-loop)
-    → c .before .before .before .before .loop .found + c .hit .result
-    ≡ counted
-    (matches (c .before .before .before .before .before .before .args .sender) (c .before .before .before .before .before .before .args .typ))
-    (take (c .before .before .before .before .loop .i + 1) (held (c .before .before .before .before .before .before .args .t1)))
+    → let at = c .before .before .before .before in
+    let a = at .before .before .before .before .args in
+    at .loop .found + c .hit .result ≡ counted (matches (a .sender) (a .typ)) (take (at .loop .i + 1) (held (a .t1)))
 turn c =
     let at = c .before .before .before .before in
-    let a = at .before .before .args in
-    count-turn (a .t1) (matches (a .sender) (a .typ)) (at .loop .i) _ _ (omega (arith, at .before .used .ensures, c .before .before .before .loop-test .taken)) (at .loop .inv .2) (rw (c .hit .ensures, c .before .matching .ensures))
+    let a = at .before .before .before .before .args in
+    let l : at .loop .i < length (held (a .t1)) = omega (arith, at .before .before .before .used .ensures, c .before .before .before .loop-test .taken) in
+    count-turn (a .t1) (matches (a .sender) (a .typ)) (at .loop .i) _ _ l (at .loop .inv .2) (rw (c .hit .ensures, c .before .matching .ensures))
 
 add-found : tie.Need-add-found Inv-loop μ-loop
 add-found c =
     let at = c .before .before .before .before in
-    let es = held (at .before .before .args .t1) in
-    let f = matches (at .before .before .args .sender) (at .before .before .args .typ) in
+    let a = at .before .before .before .before .args in
+    let es = held (a .t1) in
+    let f = matches (a .sender) (a .typ) in
     omega (arith, turn c, counted-bound f (take (at .loop .i + 1) es), length-take (at .loop .i + 1) es)
 
 loop-again : tie.Need-loop-again Inv-loop μ-loop
 loop-again c = (search needs, search needs, turn c)
 
+cast-result : tie.Need-cast-result Inv-loop μ-loop
+cast-result c =
+    let p = c .before .before .before .args .t1 in
+    let k : length (p .entries) ≡ 16 = search length-mapped in
+    omega (arith, c .before .before .used .ensures, held-fits p)
+
 returns : tie.Need-returns Inv-loop μ-loop
 returns c =
-    c .before .loop .inv .2 ∙ ap (counted _) (take-all (c .before .loop .i) (held (c .before .before .before .args .t1)) (omega (arith, c .before .before .used .ensures, c .loop-test .left)))
+    let a = c .before .before .before .args in
+    c .before .before .used .ensures ∙ sym (counted-any (a .sender) (a .typ) (held (a .t1)) (sym (c .before .both .ensures) ∙ c .if1 .taken))
+
+returns-2 : tie.Need-returns-2 Inv-loop μ-loop
+returns-2 c =
+    let at = c .before .before .before .before in
+    c .before .loop .inv .2 ∙ ap (counted _) (take-all (c .before .loop .i) (held (at .before .args .t1)) (omega (arith, at .used .ensures, c .loop-test .left)))
 
 pub count-spec : {M : Type 1} → statement M
 count-spec =
@@ -56,6 +71,9 @@ count-spec =
     Inv-loop
     μ-loop
     (λ c κs. search needs)
+    (λ c κs. search needs)
+    cast-result
+    returns
     loop-holds
     (λ c. search needs)
     (λ c. search needs)
@@ -65,4 +83,4 @@ count-spec =
     (λ c. search needs)
     (λ c. search needs)
     loop-again
-    returns)
+    returns-2)

@@ -7,9 +7,8 @@ returns : tie.Need-returns
 returns c =
     let f = c .before .before in
     let w = f .before .before in
-    let a = w .before .args in
     rw (c .word3 .ensures, c .before .word2 .ensures, f .freed2 .ensures, f .before .freed .ensures, w .word .ensures)
-    (or-matches (a .sender) (a .typ) (a .e) (search needs) (search needs) (search needs))
+    (or-matches _ _ _ (search needs) (search needs) (search needs))
 
 pub matching-spec : {M : Type 1} → statement M
 matching-spec =

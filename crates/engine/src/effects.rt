@@ -286,6 +286,35 @@ pub(crate) fn wakes(k: Command) -> bool
     }
 }
 
+// The same by the whole subject. Each of the two is called in one place, where the compiler takes it in: one function for both
+// would copy the pool twice more for every subject that a tape reaches.
+fn touch_whole(owner: model::Subject, here: State, s: u8, word: u32, x: Subject, k: Command) -> Pool
+    requires { ⌜ s < mostSubjects ⌝ }
+    ensures { λ r. ⌜ r ≡ touchedAs owner here s word x k .pool ⌝ }
+{
+    match k {
+        Command::Do {
+            subject: _,
+            exit: _,
+            word: _,
+        } => x.pool,
+        Command::Reserve { subject: _ } => {
+            let mark = x.closed[s as usize];
+            reserving::serve(owner, here, s, x.mode, mark, x.pool)
+        }
+        Command::Deliver { subject: _ } => pools::deliver(x.pool, s, word),
+        Command::Take {
+            subject: _,
+            exit: _,
+        } => x.pool,
+        Command::Run { subject: _ } => x.pool,
+        Command::Expire { subject: _ } | Command::Cancel { subject: _ } => {
+            pools::withdraw(x.pool, s)
+        }
+        Command::Tick => x.pool,
+    }
+}
+
 // A subject that a command of s reaches, s having the word.
 pub(crate) fn touch(
     owner: model::Subject,
@@ -298,11 +327,10 @@ pub(crate) fn touch(
     requires { ⌜ s < mostSubjects ⌝ }
     ensures { λ r. ⌜ r ≡ touchedAs owner here s word x k ⌝ }
 {
-    let mark = x.closed[s as usize];
     let mut y = x;
     if wakes(k) {
         y = start(owner.initial, x);
     }
-    y.pool = touch_pool(owner, here, s, word, x.mode, mark, x.pool, k);
+    y.pool = touch_whole(owner, here, s, word, x, k);
     y
 }

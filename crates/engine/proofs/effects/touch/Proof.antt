@@ -1,4 +1,4 @@
-use mathlib.Core.Path.{_≡_, refl, sym, _∙_}
+use mathlib.Core.Path.{_≡_, sym, _∙_}
 use mathlib.Core.Bool.{cond}
 use mathlib.Core.Logic.{⊎-elim}
 use borrow.Author.Needs.{needs}
@@ -10,10 +10,10 @@ use Rattle.engine.proofs.effects.touch.Tie as tie
 
 -- whom the command lets start has started
 starts : (c : tie.Joined1)
-    → let a = c .before .before .before .args in
-    c .if1 .y ≡ cond (wakes (a .k)) (started (a .owner .initial) (a .t5)) (a .t5)
+    → let a = c .before .before .args in
+    c .if1 .y ≡ cond (wakes (a .k)) (started (a .owner .initial) (a .x)) (a .x)
 starts c =
-    let a = c .before .before .before .args in
+    let a = c .before .before .args in
     let woken = c .before .wakes .ensures in
     ⊎-elim
     (λ w. w .2 ∙ w .1 .ensures ∙ sym (rw (sym woken ∙ w .0 .taken)))
@@ -22,16 +22,14 @@ starts c =
 
 returns : tie.Need-returns
 returns c =
-    let joined = c .before .before in
-    let x = joined .before .before .before .args .t5 in
-    whole-touched _ _ _ _ x _ _ _ (starts joined) (c .touch-pool .ensures x refl refl refl)
+    let joined = c .before in
+    let x = joined .before .before .args .x in
+    whole-touched _ _ _ _ x _ _ _ (starts joined) (c .touch-whole .ensures)
 
 pub touch-spec : {M : Type 1} → statement M
 touch-spec =
     tie.close
     (tie.spec
-    (λ c. search needs)
-    (λ c. search needs)
     (λ c κs. search needs)
     (λ c κs. search needs)
     (λ c κs. search needs)

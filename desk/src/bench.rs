@@ -46,85 +46,101 @@ struct Course {
     tapes: Vec<(&'static str, Vec<u8>)>,
 }
 
-/// One thing that is timed: the nanoseconds of each run for both engines.
-struct Row {
+/// One thing that is timed: for both engines what runs it once and gives the nanoseconds, and what it gave so far.
+struct Row<'a> {
     model: &'static str,
     what: String,
-    proved: Vec<f64>,
-    second: Vec<f64>,
+    proved: Box<dyn Fn() -> f64 + 'a>,
+    second: Box<dyn Fn() -> f64 + 'a>,
+    times: Vec<Times>,
+}
+
+/// The nanoseconds of one run for both engines, and for a plain copy right before and right after the proved one.
+struct Times {
+    proved: f64,
+    second: f64,
+    copy: f64,
 }
 
 /// Times both engines and prints a table in Markdown.
 pub fn main(given: &[String]) -> Outcome {
-    let args = Args::sort(given, &["--runs"], &[])?;
+    let args = Args::sort(given, &["--runs", "--only"], &[])?;
     args.expect(&[])?;
     let runs = args.number("--runs")?.unwrap_or(10);
     if !(1..=1000).contains(&runs) {
         return usage(format!("--runs: '{runs}' is no number from 1 to 1000"));
     }
     let engine = proved::engine()?;
+    let only = args.option("--only").unwrap_or("");
+    let all = [small(), middle(), large()];
+    let of = |course| rows_of(engine.as_ref(), course);
+    let mut rows: Vec<Row> = all.iter().flat_map(of).collect();
+    rows.retain(|row| format!("{} {}", row.model, row.what).contains(only));
+    if rows.is_empty() {
+        return usage(format!("--only: no row has '{only}' in 'MODEL WHAT'"));
+    }
     if cfg!(debug_assertions) {
         files::print(
             "This is a debug build: the numbers say little. Use 'cargo build --release'.\n\n",
         )?;
     }
-    let (copies, rows) = measure(engine.as_ref(), runs);
-    files::print(&table(&copies, &rows, runs))
-}
-
-/// All rows of the table; each run times everything once.
-fn measure(engine: &dyn Engine, runs: u64) -> (Vec<f64>, Vec<Row>) {
-    let all = [small(), middle(), large()];
-    let mut rows: Vec<Row> = Vec::new();
-    let mut copies = Vec::new();
     for run in 0..runs {
-        copies.push(copy_time(&all[0].start));
-        let mut place = 0;
-        for course in &all {
-            for (what, proved, second) in one_run(engine, course, run % 2 == 1) {
-                if run == 0 {
-                    rows.push(Row {
-                        model: course.name,
-                        what,
-                        proved: Vec::new(),
-                        second: Vec::new(),
-                    });
-                }
-                rows[place].proved.push(proved);
-                rows[place].second.push(second);
-                place += 1;
-            }
+        for row in &mut rows {
+            let times = one_time(row, &all[0].start, run % 2 == 1);
+            row.times.push(times);
         }
     }
-    (copies, rows)
+    files::print(&table(&rows, runs))
 }
 
-/// Loading, and every tape as a whole and walked: nanoseconds for the proved and the second engine.
-fn one_run(engine: &dyn Engine, s: &Course, second_first: bool) -> Vec<(String, f64, f64)> {
-    let mut times = Vec::new();
-    let (proved, second) = both(second_first, || load_proved(engine, s), || load_second(s));
-    times.push(("load".to_string(), proved, second));
+/// What is timed with a model: loading, and every tape as a whole and by public steps.
+fn rows_of<'a>(engine: &'a dyn Engine, s: &'a Course) -> Vec<Row<'a>> {
+    let row = |what: String, proved, second| Row {
+        model: s.name,
+        what,
+        proved,
+        second,
+        times: Vec::new(),
+    };
+    let mut rows = vec![row(
+        "load".to_string(),
+        Box::new(|| load_proved(engine, s)),
+        Box::new(|| load_second(s)),
+    )];
     for (name, tape) in &s.tapes {
-        let proved = || run_proved(engine, s, tape);
-        let (proved, second) = both(second_first, proved, || run_second(s, tape));
-        times.push((format!("tape step, {name}"), proved, second));
+        rows.push(row(
+            format!("tape step, {name}"),
+            Box::new(|| run_proved(engine, s, tape)),
+            Box::new(|| run_second(s, tape)),
+        ));
     }
     for (name, tape) in &s.tapes {
         let tape = &tape[..WALK * 8];
-        let proved = || walk_proved(engine, s, tape);
-        let (proved, second) = both(second_first, proved, || walk_second(s, tape));
-        times.push((format!("public step, {name}"), proved, second));
+        rows.push(row(
+            format!("public step, {name}"),
+            Box::new(|| walk_proved(engine, s, tape)),
+            Box::new(|| walk_second(s, tape)),
+        ));
     }
-    times
+    rows
 }
 
-/// Times both, in either order; the proved one's time stands first.
-fn both(second_first: bool, proved: impl Fn() -> f64, second: impl Fn() -> f64) -> (f64, f64) {
+/// Times both engines once, in either order, and copies of a configuration around the proved one.
+fn one_time(row: &Row, config: &Config, second_first: bool) -> Times {
+    let mut second = 0.0;
     if second_first {
-        let second = second();
-        (proved(), second)
-    } else {
-        (proved(), second())
+        second = (row.second)();
+    }
+    let before = copy_time(config);
+    let proved = (row.proved)();
+    let copy = (before + copy_time(config)) / 2.0;
+    if !second_first {
+        second = (row.second)();
+    }
+    Times {
+        proved,
+        second,
+        copy,
     }
 }
 
@@ -414,41 +430,37 @@ fn spread(times: &[f64]) -> (f64, f64, f64) {
 }
 
 /// The table in Markdown.
-fn table(copies: &[f64], rows: &[Row], runs: u64) -> String {
+fn table(rows: &[Row], runs: u64) -> String {
     let bytes = std::mem::size_of::<Config>();
-    let (copy, least, most) = spread(copies);
     let mut text = format!(
-        "A plain copy of a configuration ({bytes} bytes): {} ns ({} to {}).\n\
-         Nanoseconds: median of {runs} runs (least to most). Copies: the median as copies of a configuration.\n\n",
-        ns(copy),
-        ns(least),
-        ns(most)
+        "Median of {runs} runs (least to most). A copy is a plain copy of a configuration ({bytes} bytes), timed right before \
+         and after every time of the proved engine.\n\n"
     );
-    text += "| model | what | proved, ns | second, ns | proved / second | proved, copies | second, copies |\n";
+    text += "| model | what | proved, ns | second, ns | proved / second | a copy, ns | proved / copy |\n";
     text += "|---|---|---:|---:|---:|---:|---:|\n";
     for row in rows {
-        let ratios: Vec<f64> = row
-            .proved
-            .iter()
-            .zip(&row.second)
-            .map(|(p, s)| p / s)
-            .collect();
-        let cell = |times: &[f64]| {
-            let (median, least, most) = spread(times);
-            format!("{} ({} to {})", ns(median), ns(least), ns(most))
+        let cell = |show: fn(f64) -> String, of: fn(&Times) -> f64| {
+            let times: Vec<f64> = row.times.iter().map(of).collect();
+            let (median, least, most) = spread(&times);
+            format!("{} ({} to {})", show(median), show(least), show(most))
         };
-        let (ratio, low, high) = spread(&ratios);
         text += &format!(
-            "| {} | {} | {} | {} | {ratio:.2} ({low:.2} to {high:.2}) | {:.2} | {:.2} |\n",
+            "| {} | {} | {} | {} | {} | {} | {} |\n",
             row.model,
             row.what,
-            cell(&row.proved),
-            cell(&row.second),
-            spread(&row.proved).0 / copy,
-            spread(&row.second).0 / copy
+            cell(ns, |t| t.proved),
+            cell(ns, |t| t.second),
+            cell(ratio, |t| t.proved / t.second),
+            cell(ns, |t| t.copy),
+            cell(ratio, |t| t.proved / t.copy),
         );
     }
     text
+}
+
+/// A ratio with two places.
+fn ratio(value: f64) -> String {
+    format!("{value:.2}")
 }
 
 /// Nanoseconds: with one place below 100.

@@ -36,7 +36,7 @@ const SUBCOMMANDS: &[Subcommand] = &[
     Subcommand { name: "run", form: "MODEL TAPE [--plain]", does: RUN, example: "desk run greenhouse.txt morning.txt", main: run::main },
     Subcommand { name: "explore", form: "MODEL [--words 0,1] [--most N] [--dot FILE]", does: EXPLORE, example: "desk explore greenhouse.txt --words 0,1 --dot greenhouse.dot", main: explore::main },
     Subcommand { name: "compare", form: "[--seed N] [--cases K] [--seconds S]", does: COMPARE, example: "desk compare --seed 7 --cases 500", main: compare::main },
-    Subcommand { name: "bench", form: "[--runs N]", does: BENCH, example: "desk bench --runs 10", main: bench::main },
+    Subcommand { name: "bench", form: "[--runs N] [--only WORDS]", does: BENCH, example: "desk bench --runs 10", main: bench::main },
     Subcommand { name: "help", form: "[NAME]", does: HELP, example: "desk help build", main: help },
 ];
 
@@ -98,10 +98,11 @@ cases; --seconds stops earlier. At the end a table says how often each command, 
 difference is printed in its shortest form, with what each engine said, and ends with status 1.";
 
 const BENCH: &str = "\
-Times the proved and the second engine side by side, on a small model and a large one with full pools: loading, tape
-steps (a whole tape judged once) and public steps (validity decided for each command). Prints a table in Markdown, in
-nanoseconds and as copies of a configuration, with the median and the spread over the runs (10 unless said otherwise).
-Loading includes writing out the model's bytes in both.";
+Times the proved and the second engine side by side, on a small model, a middle one, and a large one with full pools:
+loading, tape steps (a whole tape judged once) and public steps (validity decided for each command). Prints a table in
+Markdown, in nanoseconds, as a ratio and in copies of a configuration, with the median and the spread over the runs (10
+unless said otherwise). A copy is timed right before and after every time of the proved engine. --only keeps the rows
+that have the words in them, as 'middle public step'. Loading includes writing out the model's bytes in both.";
 
 const HELP: &str = "Prints this, or what one subcommand does.";
 

@@ -1,6 +1,6 @@
 // Whether a configuration is valid for a model.
 ghost use mathlib.Core.Path.{_≡_};
-ghost use mathlib.Core.Bool.{_&&_, true};
+ghost use mathlib.Core.Bool.{_&&_};
 ghost use Prim.Native.Nat.{_≤_};
 ghost use lib.ListN.{getD};
 ghost use Rattle.sets.specs.Below.{allBelow};
@@ -96,31 +96,6 @@ fn is_nobody(x: Subject) -> bool
     pools::is_blank_pool(x.pool)
 }
 
-// Every subject by itself is right; `here` has the state in which each is.
-fn subjects_right(
-    n: u8,
-    own: [model::Subject; MOST_SUBJECTS],
-    here: [State; MOST_SUBJECTS],
-    c: Config,
-) -> bool
-    ensures { λ r. ⌜ r ≡ allBelow (λ s. subjectRightIn n (getD own s noSubject) (getD here s noState) (at c s) s) mostSubjects ⌝ }
-{
-    let mut s: usize = 0;
-    while s < MOST_SUBJECTS {
-        if s < n as usize {
-            if !subject_valid(n, own[s], here[s], c.subjects[s]) {
-                return false;
-            }
-        } else {
-            if !is_nobody(c.subjects[s]) {
-                return false;
-            }
-        }
-        s += 1;
-    }
-    true
-}
-
 // Receiver r is in the mask of s exactly when its pool holds a reservation from s, then one only, of the type.
 fn place_right(s: u8, mask: u16, typ: u8, r: u8, p: Pool) -> bool
     ensures { λ q. ⌜ q ≡ placeRight s mask typ r p ⌝ }
@@ -137,12 +112,31 @@ fn place_right(s: u8, mask: u16, typ: u8, r: u8, p: Pool) -> bool
     both(all == 0, own == 0)
 }
 
-// Every mask says where there are reservations.
-fn places_right(n: u8, here: [State; MOST_SUBJECTS], c: Config) -> bool
+// Every subject by itself is right, and every mask says where there are reservations. `here` has the state in which each is.
+// Both in one function: a configuration that is passed on is copied.
+fn all_right(
+    n: u8,
+    own: [model::Subject; MOST_SUBJECTS],
+    here: [State; MOST_SUBJECTS],
+    c: Config,
+) -> bool
     requires { ⌜ n ≤ mostSubjects ⌝ }
-    ensures { λ r. ⌜ r ≡ placesRightIn n here c ⌝ }
+    ensures { λ r. ⌜ r ≡ (allBelow (λ s. subjectRightIn n (getD own s noSubject) (getD here s noState) (at c s) s) mostSubjects && placesRightIn n here c) ⌝ }
 {
     let most = n as usize;
+    let mut i: usize = 0;
+    while i < MOST_SUBJECTS {
+        if i < most {
+            if !subject_valid(n, own[i], here[i], c.subjects[i]) {
+                return false;
+            }
+        } else {
+            if !is_nobody(c.subjects[i]) {
+                return false;
+            }
+        }
+        i += 1;
+    }
     let mut r: usize = 0;
     while r < most {
         let to = c.subjects[r];
@@ -178,10 +172,7 @@ pub fn fault_in(
     if MOST_SUBJECTS < n as usize {
         return 10;
     }
-    if !subjects_right(n, own, here, c) {
-        return 10;
-    }
-    if !places_right(n, here, c) {
+    if !all_right(n, own, here, c) {
         return 10;
     }
     0

@@ -5,17 +5,11 @@ use Rattle.configs.specs.Valid.{rightIn, faultIn}
 use Rattle.configs.proofs.valid.fault_in.Statement.{statement}
 use Rattle.configs.proofs.valid.fault_in.Tie as tie
 
--- where the subjects are right by themselves, the places decide
-right : (c : tie.After-places-right)
-    → let a = c .before .before .before .before .before .args in rightIn (a .n) (a .own) (a .here) (a .c) ≡ c .places-right .result
+-- with at most 16 subjects, what is found decides
+right : (c : tie.After-all-right)
+    → let a = c .before .before .before .args in rightIn (a .n) (a .own) (a .here) (a .c) ≡ c .all-right .result
 unfolding rightIn
-right c =
-    let is = c .before .before .before in
-    rw (
-      le-leb (is .before .before .args .n) 16 (is .if2 .left),
-      sym (c .before .before .subjects-right .ensures) ∙ not-false _ (c .before .if3 .left),
-    )
-    (sym (c .places-right .ensures))
+right c = rw (le-leb (c .before .before .before .args .n) 16 (c .before .if2 .left)) (sym (c .all-right .ensures))
 
 returns : tie.Need-returns
 unfolding faultIn
@@ -28,27 +22,16 @@ returns-2 c =
     rw (not-false (a .valid) (c .before .if1 .left), lt-leb (a .n) 16 (c .if2 .taken))
 
 returns-3 : tie.Need-returns-3
-unfolding faultIn rightIn
+unfolding faultIn
 returns-3 c =
-    let is = c .before .before in
-    let a = is .before .before .args in
-    rw (
-      not-false (a .valid) (is .before .if1 .left),
-      le-leb (a .n) 16 (is .if2 .left),
-      sym (c .before .subjects-right .ensures) ∙ not-true _ (c .if3 .taken),
-    )
+    let is = c .before .before .before in
+    rw (not-false (is .before .args .valid) (is .if1 .left), right (c .before) ∙ not-true _ (c .if3 .taken))
 
 returns-4 : tie.Need-returns-4
 unfolding faultIn
 returns-4 c =
-    let is = c .before .before .before .before .before in
-    rw (not-false (is .before .args .valid) (is .if1 .left), right (c .before) ∙ not-true _ (c .if4 .taken))
-
-returns-5 : tie.Need-returns-5
-unfolding faultIn
-returns-5 c =
-    let is = c .before .before .before .before .before in
-    rw (not-false (is .before .args .valid) (is .if1 .left), right (c .before) ∙ not-false _ (c .if4 .left))
+    let is = c .before .before .before in
+    rw (not-false (is .before .args .valid) (is .if1 .left), right (c .before) ∙ not-false _ (c .if3 .left))
 
 pub fault-in-spec : {M : Type 1} → statement M
 fault-in-spec =
@@ -58,6 +41,4 @@ fault-in-spec =
     returns-2
     (λ c κs. search needs)
     returns-3
-    (λ c κs. search needs)
-    returns-4
-    returns-5)
+    returns-4)

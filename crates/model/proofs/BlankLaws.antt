@@ -51,6 +51,10 @@ pub and-assoc : (a b c : Bool) → (a && (b && c)) ≡ ((a && b) && c)
 and-assoc true b c = refl
 and-assoc false b c = refl
 
+pub and-rest : (a b : Bool) → b ≡ true → (a && b) ≡ a
+and-rest true b h = h
+and-rest false b h = refl
+
 -- what is kept of a state, as one number
 pub blank-is : (st : Stored)
     → eqb (bitOr (st .kind + 256 * st .exits + 65536 * st .sender + 16777216 * st .typ + 4294967296 * st .after + 281474976710656 * st .timeout + 72057594037927936 * st .cancel) (st .receivers + 65536 * st .first)) 0

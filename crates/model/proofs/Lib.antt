@@ -1,3 +1,4 @@
 pub mod BlankLaws
+pub mod RuleLaws
 pub mod StageLaws
 pub mod DecodedLaws

@@ -6,7 +6,6 @@ use Rattle.sets.specs.Tests.{within, same, noneFrom}
 use Rattle.model.specs.Sizes.{mostExits, mostLimit, types}
 use Rattle.model.specs.declared.Exit.{Exit}
 use Rattle.model.specs.declared.Row.{Row}
-use Rattle.model.specs.declared.Shape.{Shape}
 use Rattle.model.specs.declared.State.{State}
 
 -- 255 is 'any' as a sender or a type, 'none' as a target
@@ -22,8 +21,16 @@ typeOrAny t = isType t || eqb t any
 
 -- ---- what one record shows
 
--- by kind: the least and the most exits; uses the state's sender and type; may have a timeout or cancel target; has receivers.
--- Of any other kind no number of exits is right.
+-- what the kind of a state allows: the least and the most exits; uses the state's sender and type; may have a timeout or cancel
+-- target; has receivers
+pub record Shape : Type 0 where
+  pub least : ℕ
+  pub most : ℕ
+  pub filters : Bool
+  pub waits : Bool
+  pub sends : Bool
+
+-- by kind; of any other no number of exits is right
 unfoldable pub shapeOf : ℕ → Shape
 shapeOf kind =
     cond (eqb kind 1) (record { least = 1; most = mostExits; filters = false; waits = true; sends = false })

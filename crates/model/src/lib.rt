@@ -83,15 +83,6 @@ pub struct Model {
     pub types: [u8; MOST_EXITS_IN_ALL],
 }
 
-// What the kind of a state allows.
-pub struct Shape {
-    pub least: u8,
-    pub most: u8,
-    pub filters: bool,
-    pub waits: bool,
-    pub sends: bool,
-}
-
 // The model beside the verdict: the empty one where the file is refused.
 pub struct Loaded {
     pub model: Model,

@@ -1,9 +1,11 @@
 // The rules for the fields of a state, an exit and a limit row.
 ghost use mathlib.Core.Path.{_≡_};
-ghost use Rattle.model.specs.Rules.{typeOrAny, shapeOf, namesFit, stateFits, exitFits, rowFits, thereOrAny, stateReaches, exitReaches, rowReaches};
+ghost use mathlib.Core.Bool.{true, false, _&&_, not};
+ghost use lib.Dec.{eqb};
+ghost use Rattle.sets.specs.Tests.{same, noneFrom};
+ghost use Rattle.model.specs.Rules.{any, typeOrAny, namesFit, stateFits, exitFits, rowFits, thereOrAny, stateReaches, exitReaches, rowReaches};
 use super::Exit;
 use super::Row;
-use super::Shape;
 use super::State;
 use sets::both;
 use sets::either;
@@ -23,77 +25,85 @@ fn there_or_any(n: u8, x: u8) -> bool
     either(x < n, x == 255)
 }
 
-// What the kind of a state allows: no number of exits is right for any other kind than 1 to 7.
-fn shape(kind: u8) -> Shape
-    ensures { λ r. ⌜ r ≡ shapeOf kind ⌝ }
+// The state names neither a sender nor a type.
+fn names_none(st: State) -> bool
+    ensures { λ r. ⌜ r ≡ namesFit false (st .sender) (st .typ) ⌝ }
 {
+    both(st.sender == 255, st.typ == 255)
+}
+
+// The state names one of n subjects or any, and a type or any.
+fn names_some(n: u8, st: State) -> bool
+    ensures { λ r. ⌜ r ≡ (thereOrAny n (st .sender) && namesFit true (st .sender) (st .typ)) ⌝ }
+{
+    both(there_or_any(n, st.sender), type_or_any(st.typ))
+}
+
+// The state may wait: a timeout exactly where there is a duration, and both targets exist.
+fn waits_right(states: u8, st: State) -> bool
+    ensures { λ r. ⌜ r ≡ (same (eqb (st .after) 0) (eqb (st .timeout) any) && (thereOrAny states (st .timeout) && thereOrAny states (st .cancel))) ⌝ }
+{
+    let after = sets::same(st.after == 0, st.timeout == 255);
+    let targets = both(
+        there_or_any(states, st.timeout),
+        there_or_any(states, st.cancel),
+    );
+    both(after, targets)
+}
+
+// The state never waits: no duration, no timeout, no cancel.
+fn never_waits(st: State) -> bool
+    ensures { λ r. ⌜ r ≡ (eqb (st .after) 0 && (eqb (st .timeout) any && eqb (st .cancel) any)) ⌝ }
+{
+    both(st.after == 0, both(st.timeout == 255, st.cancel == 255))
+}
+
+// There are receivers, and all of them are below n.
+fn sends_right(n: u8, receivers: u16) -> bool
+    ensures { λ r. ⌜ r ≡ (not (eqb receivers 0) && noneFrom n receivers) ⌝ }
+{
+    both(receivers != 0, sets::none_from(n, receivers))
+}
+
+// The fields of a state are right for its kind, and what it names exists, of n subjects and of so many states. By kind, so that
+// only what can differ is asked.
+pub(crate) fn state_right(n: u8, states: u8, st: State) -> bool
+    ensures { λ r. ⌜ r ≡ (stateFits st && stateReaches n states st) ⌝ }
+{
+    let kind = st.kind;
     match kind {
-        1 | 3 => Shape {
-            least: 1,
-            most: 8,
-            filters: false,
-            waits: true,
-            sends: false,
-        },
-        2 => Shape {
-            least: 1,
-            most: 1,
-            filters: false,
-            waits: true,
-            sends: true,
-        },
-        4..=5 => Shape {
-            least: 1,
-            most: 1,
-            filters: true,
-            waits: false,
-            sends: false,
-        },
-        6 => Shape {
-            least: 2,
-            most: 2,
-            filters: true,
-            waits: false,
-            sends: false,
-        },
-        7 => Shape {
-            least: 0,
-            most: 0,
-            filters: false,
-            waits: false,
-            sends: false,
-        },
-        _ => Shape {
-            least: 1,
-            most: 0,
-            filters: false,
-            waits: false,
-            sends: false,
-        },
+        1 | 3 => {
+            let fits = both(is_within(1, st.exits, 8), names_none(st));
+            both(fits, both(waits_right(states, st), st.receivers == 0))
+        }
+        2 => {
+            let fits = both(st.exits == 1, names_none(st));
+            both(
+                fits,
+                both(waits_right(states, st), sends_right(n, st.receivers)),
+            )
+        }
+        4..=5 => {
+            let fits = both(st.exits == 1, names_some(n, st));
+            both(fits, both(never_waits(st), st.receivers == 0))
+        }
+        6 => {
+            let fits = both(st.exits == 2, names_some(n, st));
+            both(fits, both(never_waits(st), st.receivers == 0))
+        }
+        7 => {
+            let fits = both(st.exits == 0, names_none(st));
+            both(fits, both(never_waits(st), st.receivers == 0))
+        }
+        _ => false,
     }
 }
 
-// The sender and type of a state: a type or any where its kind uses them, else both 255.
-fn names_fit(filters: bool, sender: u8, typ: u8) -> bool
-    ensures { λ r. ⌜ r ≡ namesFit filters sender typ ⌝ }
-{
-    if filters {
-        return type_or_any(typ);
-    }
-    both(sender == 255, typ == 255)
-}
-
-// The fields of a state are right for its kind.
+// The fields of a state are right for its kind: in the largest model whatever a byte names is there.
 pub(crate) fn state_fits(st: State) -> bool
     ensures { λ r. ⌜ r ≡ stateFits st ⌝ }
 {
-    let s = shape(st.kind);
-    let exits = is_within(s.least, st.exits, s.most);
-    let names = names_fit(s.filters, st.sender, st.typ);
-    let waits = either(s.waits, both(st.timeout == 255, st.cancel == 255));
-    let after = sets::same(st.after == 0, st.timeout == 255);
-    let sends = sets::same(st.receivers == 0, !s.sends);
-    both(both(both(both(exits, names), waits), after), sends)
+    state_right(255, 255, st)
 }
 
 // The sender and type of an exit are right for the kind of its state.
@@ -114,17 +124,6 @@ pub(crate) fn row_fits(w: Row) -> bool
     ensures { λ r. ⌜ r ≡ rowFits w ⌝ }
 {
     both(is_within(1, w.limit, 16), type_or_any(w.typ))
-}
-
-// The targets, the sender and the receivers of a state exist.
-pub(crate) fn state_reaches(n: u8, states: u8, st: State) -> bool
-    ensures { λ r. ⌜ r ≡ stateReaches n states st ⌝ }
-{
-    let timeout = there_or_any(states, st.timeout);
-    let cancel = there_or_any(states, st.cancel);
-    let sender = there_or_any(n, st.sender);
-    let receivers = sets::none_from(n, st.receivers);
-    both(both(both(timeout, cancel), sender), receivers)
 }
 
 // The target and the sender of an exit exist.

@@ -5,7 +5,7 @@ ghost use lib.Dec.{eqb};
 ghost use Rattle.sets.specs.Below.{allBelow};
 ghost use Rattle.model.specs.Sizes.{mostExits, mostRows};
 ghost use Rattle.model.specs.Records.{withExits};
-ghost use Rattle.model.specs.Valid.{exitNo, exitsFrom, unpacked, exitValid, storedValid, isBlankStored, noneAfter, rowKey, rowAscends, rowValid, subjectOwn, subjectValid, startRight, valid};
+ghost use Rattle.model.specs.Valid.{rowAt, isBlankRow, exitNo, exitsFrom, unpacked, exitValid, storedValid, isBlankStored, noneAfter, rowKey, rowAscends, rowValid, subjectOwn, subjectValid, startRight, valid};
 ghost use Rattle.model.specs.Views.{viewOf, statesOf};
 use super::Exit;
 use super::Model;
@@ -119,8 +119,10 @@ fn state_valid<'a>(
     ensures { λ r. ⌜ r ≡ storedValid (now (targets .entry)) (now (senders .entry)) (now (types .entry)) n states place st ⌝ }
 {
     let own = with_exits(st, records::no_exits());
-    let fits = both(rules::state_fits(own), rules::state_reaches(n, states, own));
-    if !both(fits, st.first as usize == place) {
+    if !both(
+        rules::state_right(n, states, own),
+        st.first as usize == place,
+    ) {
         return false;
     }
     exits_valid(targets, senders, types, n, states, st)
@@ -170,12 +172,29 @@ fn subject_own(n: u8, s: u8, sub: Subject, kind: u8) -> bool
     both(both(sub.states == 0, sub.initial == 0), sub.rows == 0)
 }
 
+// No row but blank ones: no branch until the end.
+fn rows_blank(sub: Subject) -> bool
+    ensures { λ r. ⌜ r ≡ allBelow (λ k. isBlankRow (rowAt sub k)) mostRows ⌝ }
+{
+    let mut seen: u8 = 0;
+    let mut k: usize = 0;
+    while k < MOST_ROWS {
+        let w = sub.row[k];
+        seen = seen | w.sender | w.typ | w.limit;
+        k += 1;
+    }
+    seen == 0
+}
+
 // The same with its rows.
 fn subject_valid(n: u8, s: u8, sub: Subject, kind: u8) -> bool
     ensures { λ r. ⌜ r ≡ subjectValid n s sub kind ⌝ }
 {
     if !subject_own(n, s, sub, kind) {
         return false;
+    }
+    if n <= s {
+        return rows_blank(sub);
     }
     let mut k = 0;
     while k < MOST_ROWS {

@@ -16,12 +16,11 @@ use Rattle.sets.proofs.Groups.{in-places-at}
 use Rattle.sets.proofs.Masks.{mask-below}
 use Rattle.model.proofs.BlankLaws.{none-at}
 use Rattle.model.specs.Records.{blankExit, blankRow, withExits}
-use Rattle.model.specs.Rules.{any, isType, typeOrAny, shapeOf, namesFit, stateFits, exitFits, rowFits, thereOrAny, stateReaches, exitReaches, rowReaches}
+use Rattle.model.specs.Rules.{any, isType, typeOrAny, Shape, shapeOf, namesFit, stateFits, exitFits, rowFits, thereOrAny, stateReaches, exitReaches, rowReaches}
 use Rattle.model.specs.Valid.{subjectAt, storedAt, exitNo, exitsFrom, stateAt, exitAt, rowAt, isBlankState, exitValid, stateOwn, stateValid, rowAscends, rowValid, subjectOwn, subjectValid, subjectRight, firstRight, stateRight, startRight, exitsInAll, noMoreExits, valid}
 use Rattle.model.specs.declared.Exit.{Exit}
 use Rattle.model.specs.declared.Model.{Model}
 use Rattle.model.specs.declared.Row.{Row}
-use Rattle.model.specs.declared.Shape.{Shape}
 use Rattle.model.specs.declared.State.{State}
 use Rattle.model.specs.declared.Subject.{Subject}
 

@@ -1,31 +1,14 @@
-use Rattle.model.specs.Rules.{stateFits}
+use mathlib.Core.Path.{_∙_}
 use borrow.Author.Needs.{needs}
+use Rattle.model.proofs.RuleLaws.{largest}
 use Rattle.model.proofs.rules.state_fits.Statement.{statement}
 use Rattle.model.proofs.rules.state_fits.Tie as tie
 
 returns : tie.Need-returns
-unfolding stateFits
 returns c =
-    let sends = c .before .before .before .before in
-    let after = sends .before .before .before in
-    let waits = after .before .before .before in
-    let names = waits .before .before .before .before in
-    rw (c .both5 .ensures, c .before .both4 .ensures, c .before .before .both3 .ensures, c .before .before .before .both2 .ensures)
-    (rw (sends .same2 .ensures, after .same .ensures, waits .either .ensures, waits .before .both .ensures, names .names-fit .ensures, names .before .is-within .ensures, names .before .before .shape .ensures))
+    let sender = c .before .good .0 .1 .1 .1 .1 in
+    let timeout = sender .1 .1 .1 in
+    c .state-right .ensures ∙ largest (c .before .args .st) (sender .0 .1) (timeout .0 .1) (timeout .1 .0 .1) (timeout .1 .1 .0 .1)
 
 pub state-fits-spec : {M : Type 1} → statement M
-state-fits-spec =
-    tie.close
-    (tie.spec
-    (λ c κs. search needs)
-    (λ c κs. search needs)
-    (λ c κs. search needs)
-    (λ c κs. search needs)
-    (λ c κs. search needs)
-    (λ c κs. search needs)
-    (λ c κs. search needs)
-    (λ c κs. search needs)
-    (λ c κs. search needs)
-    (λ c κs. search needs)
-    (λ c κs. search needs)
-    returns)
+state-fits-spec = tie.close (tie.spec (λ c κs. search needs) returns)

@@ -24,22 +24,18 @@ any-exits : (n states : ℕ) (st : Stored) (es fs : List Exit) → fits n states
 unfolding stateFits stateReaches withExits
 any-exits n states st es fs = refl
 
-abbrev start : tie.After-both2 → tie.Start
-start c = c .before .before .before .before .before .before .before .before .before .before
+abbrev start : tie.After-both → tie.Start
+start c = c .before .before .before .before .before .before .before .before
 
 -- fields and place are judged
-own : (c : tie.After-both2)
+own : (c : tie.After-both)
     → let a = start c .args in
-    (fits (a .n) (a .states) (unpacked (now (a .targets)) (now (a .senders)) (now (a .types)) (a .st)) && eqb (a .st .first) (a .place)) ≡ c .both2 .result
+    (fits (a .n) (a .states) (unpacked (now (a .targets)) (now (a .senders)) (now (a .types)) (a .st)) && eqb (a .st .first) (a .place)) ≡ c .both .result
 own c =
     let a = start c .args in
-    let fit = c .before .before .before .before in
-    let st = fit .before .with-exits .ensures in
-    let e = c .before .before .both .ensures
-    ∙ (λ i. fit .state-fits .ensures i && c .before .before .before .state-reaches .ensures i)
-    ∙ ap (fits (a .n) (a .states)) st
-    ∙ any-exits _ _ _ _ _ in
-    sym (c .both2 .ensures ∙ ap (λ (b : Bool). b && eqb (a .st .first) (a .place)) e)
+    let fit = c .before .before in
+    let e = fit .state-right .ensures ∙ ap (fits (a .n) (a .states)) (fit .before .with-exits .ensures) ∙ any-exits _ _ _ _ _ in
+    sym (c .both .ensures ∙ ap (λ (b : Bool). b && eqb (a .st .first) (a .place)) e)
 
 returns : tie.Need-returns
 unfolding storedValid
@@ -53,8 +49,6 @@ pub state-valid-spec : {M : Type 1} → statement M
 state-valid-spec =
     tie.close
     (tie.spec
-    (λ c κs. search needs)
-    (λ c κs. search needs)
     (λ c κs. search needs)
     (λ c κs. search needs)
     (λ c κs. search needs)

@@ -1,4 +1,5 @@
 pub mod RuleLaws
+pub mod ArmLaws
 pub mod KeptOne
 pub mod StillLaws
 pub mod SweepLaws

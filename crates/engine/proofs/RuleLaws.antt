@@ -219,11 +219,7 @@ module _ (c : Config) (list : List (Bool × ℕ)) (next : Stepped) (accepted : r
     λ f. ap (λ (r : Stepped). refusalOf (r .answer)) (none-refuses c list next f) ∙ accepted,
   )
 
--- the numbers of a step do ascend, 11 to 20, and an effect is accepted
-pub rules-ascend : (n : ℕ) (here : State) (c : Config) (k : Command) → ascends 0 (rules n here c k) ≡ true
-unfolding ascends
-rules-ascend n here c k = refl
-
+-- an effect is accepted
 pub effect-accepted :
     (n : ℕ) (subjects : List model-subject.Subject) (here : State) (end : Bool) (c : Config) (k : Command)
     → refusalOf (effect n subjects here end c k .answer) ≡ 0

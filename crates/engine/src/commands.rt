@@ -13,21 +13,8 @@ pub(crate) fn names(k: Command) -> bool
     ensures { λ r. ⌜ r ≡ names k ⌝ }
 {
     match k {
-        Command::Do {
-            subject: _,
-            exit: _,
-            word: _,
-        } => true,
-        Command::Reserve { subject: _ } => true,
-        Command::Deliver { subject: _ } => true,
-        Command::Take {
-            subject: _,
-            exit: _,
-        } => true,
-        Command::Run { subject: _ } => true,
-        Command::Expire { subject: _ } => true,
-        Command::Cancel { subject: _ } => true,
         Command::Tick => false,
+        _ => true,
     }
 }
 

@@ -42,13 +42,12 @@ pub(crate) fn target(here: State, p: Pool, k: Command) -> u8
             exit,
             word: _,
         } => exit_of(here, exit).target,
-        Command::Reserve { subject: _ } => 0,
         Command::Deliver { subject: _ } => exit_of(here, 0).target,
         Command::Take { subject: _, exit } => exit_of(here, exit).target,
         Command::Run { subject: _ } => exit_of(here, marks::run_exit(here, p)).target,
         Command::Expire { subject: _ } => here.timeout,
         Command::Cancel { subject: _ } => here.cancel,
-        Command::Tick => 0,
+        _ => 0,
     }
 }
 
@@ -57,21 +56,12 @@ pub(crate) fn handles(k: Command) -> bool
     ensures { λ r. ⌜ r ≡ handles k ⌝ }
 {
     match k {
-        Command::Do {
-            subject: _,
-            exit: _,
-            word: _,
-        } => false,
-        Command::Reserve { subject: _ } => false,
-        Command::Deliver { subject: _ } => false,
         Command::Take {
             subject: _,
             exit: _,
-        } => true,
-        Command::Run { subject: _ } => true,
-        Command::Expire { subject: _ } => false,
-        Command::Cancel { subject: _ } => false,
-        Command::Tick => false,
+        }
+        | Command::Run { subject: _ } => true,
+        _ => false,
     }
 }
 
@@ -94,15 +84,8 @@ pub(crate) fn arrive(t: u8, end: bool, mask: u16, me: Subject, held: u8, k: Comm
             x.mask = mask;
             x
         }
-        Command::Deliver { subject: _ } => x.enter(t, end),
-        Command::Take {
-            subject: _,
-            exit: _,
-        } => x.enter(t, end),
-        Command::Run { subject: _ } => x.enter(t, end),
-        Command::Expire { subject: _ } => x.enter(t, end),
-        Command::Cancel { subject: _ } => x.enter(t, end),
         Command::Tick => x,
+        _ => x.enter(t, end),
     }
 }
 
@@ -139,18 +122,9 @@ pub(crate) fn own(n: u8, here: State, end: bool, me: Subject, k: Command) -> Sub
     ensures { λ r. ⌜ r ≡ ownAs n here end me k ⌝ }
 {
     match k {
-        Command::Do {
-            subject: _,
-            exit: _,
-            word: _,
-        } => me,
-        Command::Reserve { subject: _ } => me,
-        Command::Deliver { subject: _ } => me,
         Command::Take { subject: _, exit } => take_own(here, end, me, exit),
         Command::Run { subject: _ } => run_own(n, here, end, me),
-        Command::Expire { subject: _ } => me,
-        Command::Cancel { subject: _ } => me,
-        Command::Tick => me,
+        _ => me,
     }
 }
 
@@ -188,21 +162,8 @@ pub(crate) fn waiters(number: u8, n: u8, k: Command) -> usize
         return 0;
     }
     match k {
-        Command::Do {
-            subject: _,
-            exit: _,
-            word: _,
-        } => 0,
-        Command::Reserve { subject: _ } => 0,
-        Command::Deliver { subject: _ } => 0,
-        Command::Take {
-            subject: _,
-            exit: _,
-        } => 0,
-        Command::Run { subject: _ } => 0,
-        Command::Expire { subject: _ } => 0,
-        Command::Cancel { subject: _ } => 0,
         Command::Tick => n as usize,
+        _ => 0,
     }
 }
 
@@ -214,21 +175,10 @@ pub(crate) fn reached(number: u8, here: State, mask: u16, k: Command) -> u16
         return 0;
     }
     match k {
-        Command::Do {
-            subject: _,
-            exit: _,
-            word: _,
-        } => 0,
         Command::Reserve { subject: _ } => here.receivers & !mask,
         Command::Deliver { subject: _ } => here.receivers,
-        Command::Take {
-            subject: _,
-            exit: _,
-        } => 0,
-        Command::Run { subject: _ } => 0,
-        Command::Expire { subject: _ } => mask,
-        Command::Cancel { subject: _ } => mask,
-        Command::Tick => 0,
+        Command::Expire { subject: _ } | Command::Cancel { subject: _ } => mask,
+        _ => 0,
     }
 }
 
@@ -246,20 +196,10 @@ pub(crate) fn touch_pool(
     ensures { λ r. ⌜ ((x : Subject) → x .mode ≡ mode → getD (x .closed) s 0 ≡ mark → x .pool ≡ p → r ≡ touchedAs owner here s word x k .pool) ⌝ }
 {
     match k {
-        Command::Do {
-            subject: _,
-            exit: _,
-            word: _,
-        } => p,
         Command::Reserve { subject: _ } => reserving::serve(owner, here, s, mode, mark, p),
         Command::Deliver { subject: _ } => pools::deliver(p, s, word),
-        Command::Take {
-            subject: _,
-            exit: _,
-        } => p,
-        Command::Run { subject: _ } => p,
         Command::Expire { subject: _ } | Command::Cancel { subject: _ } => pools::withdraw(p, s),
-        Command::Tick => p,
+        _ => p,
     }
 }
 
@@ -268,21 +208,8 @@ pub(crate) fn wakes(k: Command) -> bool
     ensures { λ r. ⌜ r ≡ wakes k ⌝ }
 {
     match k {
-        Command::Do {
-            subject: _,
-            exit: _,
-            word: _,
-        } => false,
-        Command::Reserve { subject: _ } => false,
         Command::Deliver { subject: _ } => true,
-        Command::Take {
-            subject: _,
-            exit: _,
-        } => false,
-        Command::Run { subject: _ } => false,
-        Command::Expire { subject: _ } => false,
-        Command::Cancel { subject: _ } => false,
-        Command::Tick => false,
+        _ => false,
     }
 }
 
@@ -293,25 +220,15 @@ fn touch_whole(owner: model::Subject, here: State, s: u8, word: u32, x: Subject,
     ensures { λ r. ⌜ r ≡ touchedAs owner here s word x k .pool ⌝ }
 {
     match k {
-        Command::Do {
-            subject: _,
-            exit: _,
-            word: _,
-        } => x.pool,
         Command::Reserve { subject: _ } => {
             let mark = x.closed[s as usize];
             reserving::serve(owner, here, s, x.mode, mark, x.pool)
         }
         Command::Deliver { subject: _ } => pools::deliver(x.pool, s, word),
-        Command::Take {
-            subject: _,
-            exit: _,
-        } => x.pool,
-        Command::Run { subject: _ } => x.pool,
         Command::Expire { subject: _ } | Command::Cancel { subject: _ } => {
             pools::withdraw(x.pool, s)
         }
-        Command::Tick => x.pool,
+        _ => x.pool,
     }
 }
 

@@ -143,26 +143,13 @@ pub(crate) fn heard(
     ensures { λ q. ⌜ q ≡ heardAs owner here s r x places k ⌝ }
 {
     match k {
-        Command::Do {
-            subject: _,
-            exit: _,
-            word: _,
-        } => places,
         Command::Reserve { subject: _ } => {
             let typ = effects::exit_of(here, 0).typ;
             let mark = x.closed[s as usize];
             let room = pools::has_room(owner, x.pool, s, typ);
             note(reply_of(x.mode, mark, typ, room), r, places)
         }
-        Command::Deliver { subject: _ } => places,
-        Command::Take {
-            subject: _,
-            exit: _,
-        } => places,
-        Command::Run { subject: _ } => places,
-        Command::Expire { subject: _ } => places,
-        Command::Cancel { subject: _ } => places,
-        Command::Tick => places,
+        _ => places,
     }
 }
 
@@ -174,11 +161,6 @@ pub(crate) fn answer(number: u8, here: State, places: Places, k: Command) -> Ans
         return Answer::Refused(number);
     }
     match k {
-        Command::Do {
-            subject: _,
-            exit: _,
-            word: _,
-        } => Answer::Done,
         Command::Reserve { subject: _ } => Answer::Reserved {
             placed: places.placed,
             improper: places.improper,
@@ -186,14 +168,6 @@ pub(crate) fn answer(number: u8, here: State, places: Places, k: Command) -> Ans
             full: places.full,
             missing: sets::missing(here.receivers, places.mask),
         },
-        Command::Deliver { subject: _ } => Answer::Done,
-        Command::Take {
-            subject: _,
-            exit: _,
-        } => Answer::Done,
-        Command::Run { subject: _ } => Answer::Done,
-        Command::Expire { subject: _ } => Answer::Done,
-        Command::Cancel { subject: _ } => Answer::Done,
-        Command::Tick => Answer::Done,
+        _ => Answer::Done,
     }
 }

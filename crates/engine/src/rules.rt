@@ -138,21 +138,8 @@ pub(crate) fn asks_receivers(k: Command) -> bool
     ensures { λ r. ⌜ r ≡ asksReceivers k ⌝ }
 {
     match k {
-        Command::Do {
-            subject: _,
-            exit: _,
-            word: _,
-        } => false,
-        Command::Reserve { subject: _ } => false,
-        Command::Deliver { subject: _ } => true,
-        Command::Take {
-            subject: _,
-            exit: _,
-        } => false,
-        Command::Run { subject: _ } => false,
-        Command::Expire { subject: _ } => true,
-        Command::Cancel { subject: _ } => false,
-        Command::Tick => false,
+        Command::Deliver { subject: _ } | Command::Expire { subject: _ } => true,
+        _ => false,
     }
 }
 

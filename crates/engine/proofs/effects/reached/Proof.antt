@@ -1,6 +1,9 @@
+use mathlib.Core.Path.{refl}
+use mathlib.Core.List.{[], _∷_}
 use borrow.Author.Tests.{eq-eqb, ne-eqb}
 use borrow.Author.Needs.{needs}
 use Rattle.engine.specs.InPlace.{reachedBy}
+use Rattle.engine.proofs.ArmLaws.{arm}
 use Rattle.engine.proofs.effects.reached.Statement.{statement}
 use Rattle.engine.proofs.effects.reached.Tie as tie
 
@@ -9,35 +12,19 @@ returns c = rw (ne-eqb _ _ (c .if1 .taken))
 
 returns-2 : tie.Need-returns-2
 unfolding reachedBy
-returns-2 c = rw (eq-eqb _ _ (c .before .before .if1 .left), c .enum-told .given .1)
+returns-2 c = rw (eq-eqb _ _ (c .before .before .before .if1 .left), c .before .enum-told .given .1)
 
 returns-3 : tie.Need-returns-3
 unfolding reachedBy
-returns-3 c = rw (eq-eqb _ _ (c .before .before .before .if1 .left), c .before .enum-told2 .given .1)
+returns-3 c = rw (eq-eqb _ _ (c .before .before .if1 .left), c .enum-told2 .given .1)
 
 returns-4 : tie.Need-returns-4
 unfolding reachedBy
-returns-4 c = rw (eq-eqb _ _ (c .before .before .if1 .left), c .enum-told3 .given .1)
+returns-4 c = rw (eq-eqb _ _ (c .before .if1 .left)) (arm (reachedBy _ _) (c .before .before .args .k) (5 ∷ 6 ∷ []) (c .match .keys3) refl)
 
 returns-5 : tie.Need-returns-5
 unfolding reachedBy
-returns-5 c = rw (eq-eqb _ _ (c .before .before .if1 .left), c .enum-told4 .given .1)
-
-returns-6 : tie.Need-returns-6
-unfolding reachedBy
-returns-6 c = rw (eq-eqb _ _ (c .before .before .if1 .left), c .enum-told5 .given .1)
-
-returns-7 : tie.Need-returns-7
-unfolding reachedBy
-returns-7 c = rw (eq-eqb _ _ (c .before .before .if1 .left), c .enum-told6 .given .1)
-
-returns-8 : tie.Need-returns-8
-unfolding reachedBy
-returns-8 c = rw (eq-eqb _ _ (c .before .before .if1 .left), c .enum-told7 .given .1)
-
-returns-9 : tie.Need-returns-9
-unfolding reachedBy
-returns-9 c = rw (eq-eqb _ _ (c .before .before .if1 .left), c .enum-told8 .given .1)
+returns-5 c = rw (eq-eqb _ _ (c .before .if1 .left)) (arm (reachedBy _ _) (c .before .before .args .k) (0 ∷ 3 ∷ 4 ∷ 7 ∷ []) (c .match .keys4) refl)
 
 pub reached-spec : {M : Type 1} → statement M
 reached-spec =
@@ -46,17 +33,7 @@ reached-spec =
     returns
     (λ c. search needs)
     (λ c. search needs)
-    (λ c. search needs)
-    (λ c. search needs)
-    (λ c. search needs)
-    (λ c. search needs)
-    (λ c. search needs)
-    (λ c. search needs)
     returns-2
     returns-3
     returns-4
-    returns-5
-    returns-6
-    returns-7
-    returns-8
-    returns-9)
+    returns-5)

@@ -17,9 +17,10 @@ use Rattle.sets.proofs.Below.{all-stop, all-each, all-by, sum-more, fill-start,
 use Rattle.sets.proofs.Groups.{in-places-at}
 use Rattle.model.specs.Records.{blankExit, blankExits, withExits}
 use Rattle.model.specs.Rules.{stateFits, stateReaches, exitFits, exitReaches}
-use Rattle.model.specs.Valid.{subjectAt, storedAt, exitNo, exitsFrom, unpacked, stateAt, exitAt, isBlankState, isBlankStored, exitValid, stateOwn, stateValid, storedValid, rowValid, subjectFits, isBlankSubject, subjectOwn, subjectValid, kindAt, subjectRight, exitsBefore, firstRight, stateRight, startRight, exitsInAll, noneAfter, noMoreExits, valid}
+use Rattle.model.specs.Valid.{subjectAt, storedAt, exitNo, exitsFrom, unpacked, stateAt, exitAt, isBlankRow, isBlankState, isBlankStored, exitValid, stateOwn, stateValid, storedValid, rowValid, subjectFits, isBlankSubject, subjectOwn, subjectValid, kindAt, subjectRight, exitsBefore, firstRight, stateRight, startRight, exitsInAll, noneAfter, noMoreExits, valid}
 use Rattle.model.specs.declared.Exit.{Exit}
 use Rattle.model.specs.declared.Model.{Model}
+use Rattle.model.specs.declared.Row.{Row}
 use Rattle.model.specs.declared.State.{State}
 use Rattle.model.specs.declared.Stored.{Stored}
 use Rattle.model.specs.declared.Subject.{Subject}
@@ -61,6 +62,10 @@ pub blank-is : (st : Stored)
     ≡ isBlankStored st
 unfolding isBlankStored isBlankState withExits
 blank-is st = simp (or-none, sum-none, and-assoc)
+
+-- a row, as one number
+pub blank-row-is : (w : Row) → eqb (w .sender + 256 * w .typ + 65536 * w .limit) 0 ≡ isBlankRow w
+blank-row-is w = simp sum-none
 
 -- ---- the exits of a state
 

@@ -172,15 +172,21 @@ fn subject_own(n: u8, s: u8, sub: Subject, kind: u8) -> bool
     both(both(sub.states == 0, sub.initial == 0), sub.rows == 0)
 }
 
+// A row as one number, which is 0 exactly where there is nothing but zeros.
+fn row_bits(w: Row) -> u32
+    ensures { λ r. ⌜ eqb r 0 ≡ isBlankRow w ⌝ }
+{
+    w.sender as u32 + 256 * (w.typ as u32) + 65536 * (w.limit as u32)
+}
+
 // No row but blank ones: no branch until the end.
 fn rows_blank(sub: Subject) -> bool
     ensures { λ r. ⌜ r ≡ allBelow (λ k. isBlankRow (rowAt sub k)) mostRows ⌝ }
 {
-    let mut seen: u8 = 0;
+    let mut seen: u32 = 0;
     let mut k: usize = 0;
     while k < MOST_ROWS {
-        let w = sub.row[k];
-        seen = seen | w.sender | w.typ | w.limit;
+        seen = seen | row_bits(sub.row[k]);
         k += 1;
     }
     seen == 0

@@ -7,7 +7,7 @@ use lib.Dec.{eqb}
 use Rattle.sets.specs.Below.{allBelow}
 use Rattle.model.specs.Valid.{rowAt, isBlankRow}
 use Rattle.model.specs.declared.Subject.{Subject}
-use Rattle.model.proofs.BlankLaws.{or-none, and-assoc}
+use Rattle.model.proofs.BlankLaws.{or-none}
 use borrow.Author.Needs.{needs}
 use Rattle.model.proofs.valid.rows_blank.Statement.{statement}
 use Rattle.model.proofs.valid.rows_blank.Tie as tie
@@ -19,10 +19,10 @@ abbrev μ-loop : tie.MeasureT-loop
 μ-loop sub seen₀ k₀ seen k = 8 - k
 
 -- one row more
-turn : (sub : Subject) (seen k : ℕ) → eqb seen 0 ≡ allBelow (λ i. isBlankRow (rowAt sub i)) k
-    → eqb (bitOr (bitOr (bitOr seen (rowAt sub k .sender)) (rowAt sub k .typ)) (rowAt sub k .limit)) 0 ≡ allBelow (λ i. isBlankRow (rowAt sub i)) (k + 1)
+turn : (sub : Subject) (seen bits k : ℕ) → eqb seen 0 ≡ allBelow (λ i. isBlankRow (rowAt sub i)) k → eqb bits 0 ≡ isBlankRow (rowAt sub k)
+    → eqb (bitOr seen bits) 0 ≡ allBelow (λ i. isBlankRow (rowAt sub i)) (k + 1)
 unfolding allBelow
-turn sub seen k h = rw (add-one, ← h) (simp (or-none, and-assoc))
+turn sub seen bits k h e = or-none seen bits ∙ rw (add-one, ← h, ← e)
 
 loop-holds : tie.Need-loop-holds Inv-loop μ-loop
 unfolding allBelow
@@ -30,8 +30,8 @@ loop-holds c = (search needs, refl)
 
 loop-again : tie.Need-loop-again Inv-loop μ-loop
 loop-again c =
-    let at = c .before .before .before .before .before in
-    (search needs, turn (at .before .args .t1) (at .loop .seen) (at .loop .k) (at .loop .inv .1))
+    let at = c .before .before .before in
+    (search needs, turn (at .before .args .t1) (at .loop .seen) (c .row-bits .result) (at .loop .k) (at .loop .inv .1) (c .row-bits .ensures))
 
 returns : tie.Need-returns Inv-loop μ-loop
 returns c = let at = c .before .loop in at .inv .1 ∙ ap (allBelow _) (le-antisymm (at .inv .0) (c .loop-test .left))
@@ -45,6 +45,7 @@ rows-blank-spec =
     loop-holds
     (λ c. search needs)
     (λ c. search needs)
+    (λ c κs. search needs)
     (λ c. search needs)
     (λ c. search needs)
     loop-again

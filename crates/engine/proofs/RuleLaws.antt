@@ -6,7 +6,7 @@ use mathlib.Core.List.{List, [], _∷_, _++_}
 use Prim.Native.Nat.{ℕ, zero, suc, _<_, suc-le-suc}
 use native.Mathlib.Nat.{not-suc-le-zero, le-of-suc-le-suc}
 use native.Mathlib.Omega.{arith}
-use borrow.Author.Tests.{ltb-true, eqb-true, ne-eqb}
+use borrow.Author.Tests.{leb-false, ltb-true, eqb-true, ne-eqb, not-false}
 use lib.Dec.{eqb, leb, ltb}
 use lib.ListN.{length}
 use Rattle.sets.specs.Tests.{within}
@@ -23,7 +23,7 @@ use Rattle.engine.specs.Effects.{wantedAt}
 use Rattle.engine.specs.Exact.{holdsAt, numberAt, FirstRule, NoRule}
 use Rattle.engine.specs.Reserve.{answered, reserving}
 use Rattle.engine.specs.Rules.{noSubject, notRunning, wrongKind, noExit, isNothing, noMessage, missesPlace, placeMissing, someImproper, notPlaced, improperReceiver, noTarget, tooEarly, canDeliver, sendFirst, kindRules, rules, firstNumber, guarded}
-use Rattle.engine.specs.Steps.{effect, acts, turnRules}
+use Rattle.engine.specs.Steps.{effect, acts, firstRules, turnRules}
 use Rattle.engine.specs.declared.Command.{Command}
 use Rattle.engine.specs.declared.Command.the-variants.{Do, Reserve, Deliver, Take, Run, Expire, Cancel, Tick}
 
@@ -326,3 +326,48 @@ pub fault-number :
     (firstNumber (rules n here c k))))
 unfolding firstNumber
 fault-number fault code n here c k = refl
+
+-- the rules from 8 to 12
+pub first-number :
+    (fault code n : ℕ) (c : Config) (k : Command)
+    → firstNumber (firstRules fault code n c k)
+    ≡ cond (eqb fault 8) 8
+    (cond (not (isCode code)) 9
+    (cond (eqb fault 10) 10
+    (cond (names k && leb n (subjectOf k)) 11
+    (cond (names k && not (eqb (at c (subjectOf k) .mode) running)) 12
+    0))))
+unfolding firstNumber noSubject notRunning
+first-number fault code n c k = refl
+
+-- of five tests with their numbers, none of which is 0, and what comes next
+abbrev five : Bool → Bool → Bool → Bool → Bool → ℕ → ℕ
+five a b c d e next = cond a 8 (cond b 9 (cond c 10 (cond d 11 (cond e 12 next))))
+
+past-five : (a b c d e : Bool) (next : ℕ) → five a b c d e next ≡ cond (eqb (five a b c d e 0) 0) next (five a b c d e 0)
+past-five true b c d e next = refl
+past-five false true c d e next = refl
+past-five false false true d e next = refl
+past-five false false false true e next = refl
+past-five false false false false true next = refl
+past-five false false false false false next = refl
+
+-- where none of them holds, those of the command's kind decide
+pub turn-first :
+    (fault code n : ℕ) (here : State) (c : Config) (k : Command)
+    → firstNumber (turnRules fault code n here c k)
+    ≡ cond (eqb (firstNumber (firstRules fault code n c k)) 0)
+    (firstNumber (kindRules here c k))
+    (firstNumber (firstRules fault code n c k))
+unfolding firstNumber
+turn-first fault code n here c k =
+    past-five (eqb fault 8) (not (isCode code)) (eqb fault 10) (noSubject n k) (notRunning c k) (firstNumber (kindRules here c k))
+
+-- where none of them holds, a command that names a subject has a right code and names one that is there
+pub first-none : (fault code n : ℕ) (c : Config) (k : Command) {A : Type 0} → firstNumber (firstRules fault code n c k) ≡ 0
+    → (eqb fault 8 ≡ false → isCode code ≡ true → names k ≡ true → subjectOf k < n → A) → names k ≡ true → A
+unfolding ascends noSubject
+first-none fault code n c k none asks named =
+    let no = number-none (firstRules fault code n c k) refl none in
+    asks (no .none 0 (omega arith)) (not-false (isCode code) (no .none 1 (omega arith))) named
+    (leb-false n (subjectOf k) (rw named at (no .none 3 (omega arith))))

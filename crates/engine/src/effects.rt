@@ -1,18 +1,23 @@
 // What the accepted commands do to the configuration, Reserve aside.
 ghost use mathlib.Core.Path.{_≡_};
-ghost use Prim.Native.Nat.{_+_, _<_, min};
-ghost use lib.ListN.{getD};
+ghost use Prim.Native.Nat.{ℕ, _+_, _<_, min};
 ghost use Rattle.model.specs.Sizes.{mostSubjects};
 ghost use Rattle.model.specs.Valid.{exitAt};
+ghost use Rattle.pools.specs.declared.Pool.{Pool};
+ghost use Rattle.configs.specs.Subjects.{withPool};
 ghost use Rattle.configs.specs.declared.Subject.{Subject};
-ghost use Rattle.engine.specs.Effects.{targetOf, wantedAt, ranAs, started};
-ghost use Rattle.engine.specs.InPlace.{tookAs, ownAs, handles, waiters, reached, wakes, touchedAs, withCount, arrivedAs};
+ghost use Rattle.engine.specs.Effects.{targetOf, wantedAt, ranAs, started, ticked};
+ghost use Rattle.engine.specs.InPlace.{tookAs, ownAs, handles, waiters, reached, wakes, touchedAs, withCount, arrivedAs, standingOf, withStanding, endIn, settledAs};
+ghost use Rattle.engine.specs.declared.Command.the-variants.{Do};
 use super::Command;
+use super::Standing;
 use super::marks;
 use super::reserving;
+use super::standings;
 use configs::Subject;
 use model::Exit;
 use model::MOST_EXITS;
+use model::MOST_STATES;
 use model::State;
 use pools::Pool;
 use sets::Found;
@@ -65,12 +70,11 @@ pub(crate) fn handles(k: Command) -> bool
     }
 }
 
-// The numbers of a subject with so many entries after a command: it comes to a state, with Do's word; at Reserve its mask has grown.
-pub(crate) fn arrive(t: u8, end: bool, mask: u16, me: Subject, held: u8, k: Command) -> Subject
-    ensures { λ r. ⌜ r ≡ arrivedAs t end mask (withCount held me) k ⌝ }
+// A subject after a command: it comes to a state, with Do's word; at Reserve its mask has grown.
+pub(crate) fn arrive(t: u8, end: bool, mask: u16, me: Subject, k: Command) -> Subject
+    ensures { λ r. ⌜ r ≡ arrivedAs t end mask me k ⌝ }
 {
     let mut x = me;
-    x.pool.count = held;
     match k {
         Command::Do {
             subject: _,
@@ -87,6 +91,67 @@ pub(crate) fn arrive(t: u8, end: bool, mask: u16, me: Subject, held: u8, k: Comm
         Command::Tick => x,
         _ => x.enter(t, end),
     }
+}
+
+// State t of subject s is an end, by the kinds of all states.
+pub(crate) fn ends_at(kinds: &[u8], s: u8, t: u8) -> bool
+    ensures { λ r. ⌜ r ≡ endIn (now (kinds .entry)) s t ⌝ }
+{
+    sets::byte(kinds, s as usize * MOST_STATES + (t % 32) as usize) == 7
+}
+
+// A subject that stands so, with so many entries, whatever they are.
+fn counting(me: Subject, st: Standing, held: u8) -> Subject
+    ensures { λ r. ⌜ r ≡ withCount held (withStanding st me) ⌝ }
+{
+    let mut x = standings::with_standing(me, st);
+    x.pool.count = held;
+    x
+}
+
+// Where the subject of Do, which has so many entries, stands in the end; refused, it stands where it stood.
+pub(crate) fn done(
+    number: u8,
+    here: State,
+    kinds: &[u8],
+    s: u8,
+    me: Subject,
+    st: Standing,
+    held: u8,
+    exit: u8,
+    word: u32,
+) -> Standing
+    ensures { λ r. ⌜ ((p : Pool) (q mask : ℕ) → p .count ≡ held → r ≡ standingOf (settledAs number here (now (kinds .entry)) s mask (withPool p (withStanding st me)) (Do q exit word))) ⌝ }
+{
+    if number != 0 {
+        return st;
+    }
+    let t = exit_of(here, exit).target;
+    let mut x = counting(me, st, held);
+    x.word = word;
+    standings::standing_of(x.enter(t, ends_at(kinds, s, t)))
+}
+
+// Where the subject of a command that reaches others stands in the end; refused, it stands where it stood.
+pub(crate) fn settle(
+    number: u8,
+    here: State,
+    kinds: &[u8],
+    s: u8,
+    mask: u16,
+    me: Subject,
+    st: Standing,
+    p: Pool,
+    k: Command,
+) -> Standing
+    ensures { λ r. ⌜ r ≡ standingOf (settledAs number here (now (kinds .entry)) s mask (withPool p (withStanding st me)) k) ⌝ }
+{
+    if number != 0 {
+        return st;
+    }
+    let t = target(here, p, k);
+    let x = counting(me, st, p.count);
+    standings::standing_of(arrive(t, ends_at(kinds, s, t), mask, x, k))
 }
 
 // Take: the earliest message that matches is removed, its content becomes the word, the target is entered.
@@ -128,20 +193,28 @@ pub(crate) fn own(n: u8, here: State, end: bool, me: Subject, k: Command) -> Sub
     }
 }
 
-// Asleep or ended properly, a receiver starts at its initial state; its marks and pool stay.
-pub(crate) fn start(initial: u8, x: Subject) -> Subject
-    ensures { λ r. ⌜ r ≡ started initial x ⌝ }
+// The same by the kinds of all states.
+pub(crate) fn handle(n: u8, here: State, kinds: &[u8], s: u8, me: Subject, k: Command) -> Subject
+    ensures { λ r. ⌜ r ≡ ownAs n here (endIn (now (kinds .entry)) s (targetOf here me k)) me k ⌝ }
 {
-    if !sets::either(x.mode == 0, x.mode == 2) {
-        return x;
+    let t = target(here, me.pool, k);
+    own(n, here, ends_at(kinds, s, t), me, k)
+}
+
+// Asleep or ended properly, a receiver starts at its initial state.
+pub(crate) fn start(initial: u8, st: Standing) -> Standing
+    ensures { λ r. ⌜ ((x : Subject) → r ≡ standingOf (started initial (withStanding st x))) ⌝ }
+{
+    if !sets::either(st.mode == 0, st.mode == 2) {
+        return st;
     }
-    let mut y = x;
-    y.mode = 1;
-    y.state = initial;
-    y.waited = 0;
-    y.word = 0;
-    y.mask = 0;
-    y
+    Standing {
+        mode: 1,
+        state: initial,
+        waited: 0,
+        word: 0,
+        mask: 0,
+    }
 }
 
 // One tick more, up to 65,535.
@@ -152,6 +225,17 @@ pub(crate) fn one_more(waited: u16) -> u16
         return waited;
     }
     waited + 1
+}
+
+// Who runs has waited one more.
+pub(crate) fn wait(st: Standing) -> Standing
+    ensures { λ r. ⌜ ((x : Subject) → r ≡ standingOf (ticked (withStanding st x))) ⌝ }
+{
+    let mut next = st;
+    if st.mode == 1 {
+        next.waited = one_more(st.waited);
+    }
+    next
 }
 
 // How many subjects, from the first on, a command has wait one more: at a tick that is accepted the n that there are.
@@ -182,27 +266,6 @@ pub(crate) fn reached(number: u8, here: State, mask: u16, k: Command) -> u16
     }
 }
 
-// The pool of a subject that a command of s reaches, s having the word: it gives a place, gets a message, or is withdrawn from.
-pub(crate) fn touch_pool(
-    owner: model::Subject,
-    here: State,
-    s: u8,
-    word: u32,
-    mode: u8,
-    mark: u32,
-    p: Pool,
-    k: Command,
-) -> Pool
-    ensures { λ r. ⌜ ((x : Subject) → x .mode ≡ mode → getD (x .closed) s 0 ≡ mark → x .pool ≡ p → r ≡ touchedAs owner here s word x k .pool) ⌝ }
-{
-    match k {
-        Command::Reserve { subject: _ } => reserving::serve(owner, here, s, mode, mark, p),
-        Command::Deliver { subject: _ } => pools::deliver(p, s, word),
-        Command::Expire { subject: _ } | Command::Cancel { subject: _ } => pools::withdraw(p, s),
-        _ => p,
-    }
-}
-
 // Whether those whom the command reaches may start.
 pub(crate) fn wakes(k: Command) -> bool
     ensures { λ r. ⌜ r ≡ wakes k ⌝ }
@@ -213,9 +276,8 @@ pub(crate) fn wakes(k: Command) -> bool
     }
 }
 
-// The same by the whole subject. Each of the two is called in one place, where the compiler takes it in: one function for both
-// would copy the pool twice more for every subject that a tape reaches.
-fn touch_whole(owner: model::Subject, here: State, s: u8, word: u32, x: Subject, k: Command) -> Pool
+// The pool of a subject that a command of s reaches, s having the word: it gives a place, gets a message, or is withdrawn from.
+fn touch_pool(owner: model::Subject, here: State, s: u8, word: u32, x: Subject, k: Command) -> Pool
     requires { ⌜ s < mostSubjects ⌝ }
     ensures { λ r. ⌜ r ≡ touchedAs owner here s word x k .pool ⌝ }
 {
@@ -246,8 +308,8 @@ pub(crate) fn touch(
 {
     let mut y = x;
     if wakes(k) {
-        y = start(owner.initial, x);
+        y = standings::with_standing(x, start(owner.initial, standings::standing_of(x)));
     }
-    y.pool = touch_whole(owner, here, s, word, x, k);
+    y.pool = touch_pool(owner, here, s, word, x, k);
     y
 }

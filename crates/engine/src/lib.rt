@@ -4,6 +4,7 @@ mod effects;
 mod marks;
 mod reserving;
 mod rules;
+mod standings;
 mod steps;
 mod tapes;
 
@@ -52,6 +53,15 @@ pub struct Places {
 pub struct Round {
     pub config: Config,
     pub places: Places,
+}
+
+// Where a subject stands: the numbers that most commands change.
+pub struct Standing {
+    pub mode: u8,
+    pub state: u8,
+    pub waited: u16,
+    pub word: u32,
+    pub mask: u16,
 }
 
 // A command as it stood on the tape: its code, the subject that its line shows, and the command.

@@ -3,18 +3,19 @@ ghost use mathlib.Core.Path.{_≡_};
 ghost use mathlib.Core.Bool.{true, false};
 ghost use Prim.Native.Nat.{ℕ, _<_};
 ghost use lib.Dec.{eqb};
-ghost use Rattle.configs.specs.Subjects.{at, withPool};
+ghost use Rattle.configs.specs.Subjects.{at};
 ghost use Rattle.configs.specs.declared.Config.{Config};
 ghost use Rattle.configs.specs.declared.Subject.{Subject};
 ghost use Rattle.engine.specs.Commands.{names, subjectOf, isCode};
 ghost use Rattle.engine.specs.Effects.{wantedAt};
+ghost use Rattle.engine.specs.InPlace.{someImproperIn, Reads};
 ghost use Rattle.engine.specs.Rules.{missesPlace, isNothing, someImproper, asksReceivers, kindRules, firstNumber};
-ghost use Rattle.engine.specs.Steps.{turnRules};
+ghost use Rattle.engine.specs.Steps.{firstRules, turnRules};
 ghost use Rattle.engine.specs.declared.Command.the-variants.{Do, Reserve, Deliver, Take, Run, Expire, Cancel};
 use super::Command;
+use super::Standing;
 use super::commands;
 use super::effects;
-use configs::Config;
 use configs::Subject;
 use model::MOST_SUBJECTS;
 use model::State;
@@ -30,12 +31,12 @@ fn misses_place(here: State, mask: u16) -> bool
 }
 
 // A receiver has ended improperly.
-pub(crate) fn some_improper(here: State, c: Config) -> bool
-    ensures { λ r. ⌜ r ≡ someImproper here c ⌝ }
+pub(crate) fn some_improper(here: State, stands: [Standing; MOST_SUBJECTS]) -> bool
+    ensures { λ r. ⌜ r ≡ someImproperIn here stands ⌝ }
 {
     let mut r: usize = 0;
     while r < MOST_SUBJECTS {
-        if both(sets::has(here.receivers, r as u8), c.subjects[r].mode == 3) {
+        if both(sets::has(here.receivers, r as u8), stands[r].mode == 3) {
             return true;
         }
         r += 1;
@@ -56,7 +57,7 @@ fn no_message(here: State, exit: u8, p: Pool) -> bool
 }
 
 // Do.
-fn refuse_do(here: State, exit: u8) -> u8
+pub(crate) fn refuse_do(here: State, exit: u8) -> u8
     ensures { λ r. ⌜ ((c : Config) (s w : ℕ) → r ≡ firstNumber (kindRules here c (Do s exit w))) ⌝ }
 {
     if here.kind != 1 {
@@ -143,9 +144,16 @@ pub(crate) fn asks_receivers(k: Command) -> bool
     }
 }
 
-// The rules of the command's kind: 13 to 20.
-fn refuse_kind(here: State, me: Subject, p: Pool, improper: bool, k: Command) -> u8
-    ensures { λ r. ⌜ ((c : Config) → (names k ≡ true → at c (subjectOf k) ≡ withPool p me) → (asksReceivers k ≡ true → someImproper here c ≡ improper) → r ≡ firstNumber (kindRules here c k)) ⌝ }
+// The rules of the command's kind, by what its subject has waited, its mask and its pool: 13 to 20.
+pub(crate) fn refuse_kind(
+    here: State,
+    waited: u16,
+    mask: u16,
+    p: Pool,
+    improper: bool,
+    k: Command,
+) -> u8
+    ensures { λ r. ⌜ ((c : Config) → (names k ≡ true → Reads (at c (subjectOf k)) waited mask p) → (asksReceivers k ≡ true → someImproper here c ≡ improper) → r ≡ firstNumber (kindRules here c k)) ⌝ }
 {
     match k {
         Command::Do {
@@ -154,28 +162,18 @@ fn refuse_kind(here: State, me: Subject, p: Pool, improper: bool, k: Command) ->
             word: _,
         } => refuse_do(here, exit),
         Command::Reserve { subject: _ } => refuse_reserve(here),
-        Command::Deliver { subject: _ } => refuse_deliver(here, me.mask, improper),
+        Command::Deliver { subject: _ } => refuse_deliver(here, mask, improper),
         Command::Take { subject: _, exit } => refuse_take(here, exit, p),
         Command::Run { subject: _ } => refuse_run(here),
-        Command::Expire { subject: _ } => refuse_expire(here, me.waited, me.mask, improper),
+        Command::Expire { subject: _ } => refuse_expire(here, waited, mask, improper),
         Command::Cancel { subject: _ } => refuse_cancel(here),
         Command::Tick => 0,
     }
 }
 
-// The refusal of a command by the fault that was found, its code, the state in which its subject is, the subject, its pool,
-// and whether a receiver has ended improperly.
-pub(crate) fn refuse(
-    fault: u8,
-    code: u8,
-    n: u8,
-    here: State,
-    me: Subject,
-    p: Pool,
-    improper: bool,
-    k: Command,
-) -> u8
-    ensures { λ r. ⌜ ((c : Config) → (eqb fault 8 ≡ false → isCode code ≡ true → names k ≡ true → subjectOf k < n → at c (subjectOf k) ≡ withPool p me) → (asksReceivers k ≡ true → someImproper here c ≡ improper) → r ≡ firstNumber (turnRules fault code n here c k)) ⌝ }
+// The rules before those of the command's kind, by the fault that was found, the code, and the mode of the command's subject: 8 to 12.
+pub(crate) fn refuse_first(fault: u8, code: u8, n: u8, mode: u8, k: Command) -> u8
+    ensures { λ r. ⌜ ((c : Config) → (eqb fault 8 ≡ false → isCode code ≡ true → names k ≡ true → subjectOf k < n → at c (subjectOf k) .mode ≡ mode) → r ≡ firstNumber (firstRules fault code n c k)) ⌝ }
 {
     if fault == 8 {
         return 8;
@@ -190,9 +188,29 @@ pub(crate) fn refuse(
         if n <= commands::subject_of(k) {
             return 11;
         }
-        if me.mode != 1 {
+        if mode != 1 {
             return 12;
         }
     }
-    refuse_kind(here, me, p, improper, k)
+    0
+}
+
+// The refusal of a command by the fault that was found, its code, the state in which its subject is, the subject, and whether a
+// receiver has ended improperly.
+pub(crate) fn refuse(
+    fault: u8,
+    code: u8,
+    n: u8,
+    here: State,
+    me: Subject,
+    improper: bool,
+    k: Command,
+) -> u8
+    ensures { λ r. ⌜ ((c : Config) → (eqb fault 8 ≡ false → isCode code ≡ true → names k ≡ true → subjectOf k < n → at c (subjectOf k) ≡ me) → (asksReceivers k ≡ true → someImproper here c ≡ improper) → r ≡ firstNumber (turnRules fault code n here c k)) ⌝ }
+{
+    let first = refuse_first(fault, code, n, me.mode, k);
+    if first != 0 {
+        return first;
+    }
+    refuse_kind(here, me.waited, me.mask, me.pool, improper, k)
 }

@@ -20,7 +20,7 @@ returns-3 c = rw (c .enum-told2 .given .1)
 
 returns-4 : tie.Need-returns-4
 unfolding arrivedAs
-returns-4 c = c .enter2 .ensures ∙ arm (arrivedAs _ _ _ _) (c .before .before .before .args .k) (2 ∷ 3 ∷ 4 ∷ 5 ∷ 6 ∷ []) (c .before .match .keys4) refl
+returns-4 c = c .enter2 .ensures ∙ arm (arrivedAs _ _ _ _) (c .before .before .args .k) (2 ∷ 3 ∷ 4 ∷ 5 ∷ 6 ∷ []) (c .before .match .keys4) refl
 
 pub arrive-spec : {M : Type 1} → statement M
 arrive-spec =

@@ -7,11 +7,11 @@ use Rattle.engine.proofs.effects.start.Tie as tie
 
 returns : tie.Need-returns
 unfolding started
-returns c = rw (sym (c .before .either .ensures) ∙ not-true _ (c .if1 .taken))
+returns c x = rw (sym (c .before .either .ensures) ∙ not-true _ (c .if1 .taken))
 
 returns-2 : tie.Need-returns-2
 unfolding started
-returns-2 c = rw (sym (c .before .either .ensures) ∙ not-false _ (c .if1 .left))
+returns-2 c x = rw (sym (c .before .either .ensures) ∙ not-false _ (c .if1 .left))
 
 pub start-spec : {M : Type 1} → statement M
 start-spec = tie.close (tie.spec (λ c κs. search needs) returns returns-2)

@@ -1,6 +1,5 @@
-use mathlib.Core.Path.{refl, sym, ap}
+use mathlib.Core.Path.{refl, sym}
 use borrow.Author.Needs.{needs}
-use Rattle.configs.specs.declared.Subject.{Subject}
 use Rattle.engine.proofs.RuleLaws.{tick-number}
 use Rattle.engine.proofs.rules.refuse_kind.Statement.{statement}
 use Rattle.engine.proofs.rules.refuse_kind.Tie as tie
@@ -14,10 +13,10 @@ returns-2 c d = rw (c .before .enum-told .given .1) (λ own ends. c .refuse-rese
 returns-3 : tie.Need-returns-3
 returns-3 c d =
     rw (c .before .enum-told2 .given .1)
-    (λ own ends. c .refuse-deliver .ensures d _ (ap (λ (x : Subject). x .mask) (own refl)) (ends refl))
+    (λ own ends. c .refuse-deliver .ensures d _ (own refl .places) (ends refl))
 
 returns-4 : tie.Need-returns-4
-returns-4 c d = rw (c .before .before .k2 .given .1) (λ own ends. c .refuse-take .ensures d _ (ap (λ (x : Subject). x .pool) (own refl)))
+returns-4 c d = rw (c .before .before .k2 .given .1) (λ own ends. c .refuse-take .ensures d _ (own refl .holds))
 
 returns-5 : tie.Need-returns-5
 returns-5 c d = rw (c .before .enum-told3 .given .1) (λ own ends. c .refuse-run .ensures d _)
@@ -25,7 +24,7 @@ returns-5 c d = rw (c .before .enum-told3 .given .1) (λ own ends. c .refuse-run
 returns-6 : tie.Need-returns-6
 returns-6 c d =
     rw (c .before .enum-told4 .given .1)
-    (λ own ends. c .refuse-expire .ensures d _ (ap (λ (x : Subject). x .waited) (own refl)) (ap (λ (x : Subject). x .mask) (own refl)) (ends refl))
+    (λ own ends. c .refuse-expire .ensures d _ (own refl .waits) (own refl .places) (ends refl))
 
 returns-7 : tie.Need-returns-7
 returns-7 c d = rw (c .before .enum-told5 .given .1) (λ own ends. c .refuse-cancel .ensures d _)

@@ -3,19 +3,21 @@ use mathlib.Core.Bool.{Bool, false, _&&_}
 use Prim.Native.Nat.{ℕ, _≤_, _-_}
 use borrow.Author.Needs.{needs}
 use lib.Dec.{eqb}
+use lib.ListN.{getD}
+use mathlib.Core.List.{List}
 use Rattle.sets.specs.Below.{someBelow}
 use Rattle.sets.specs.Masks.{bit}
 use Rattle.sets.proofs.Below.{some-start, some-more, some-found, some-end}
 use Rattle.model.specs.declared.State.{State}
-use Rattle.configs.specs.Subjects.{endedImproperly, at}
-use Rattle.configs.specs.declared.Config.{Config}
-use Rattle.engine.specs.Rules.{someImproper}
+use Rattle.configs.specs.Subjects.{endedImproperly, noOne}
+use Rattle.engine.specs.InPlace.{standingOf, someImproperIn}
+use Rattle.engine.specs.declared.Standing.{Standing}
 use Rattle.engine.proofs.rules.some_improper.Statement.{statement}
 use Rattle.engine.proofs.rules.some_improper.Tie as tie
 
 -- receiver r has ended improperly
-abbrev test : State → Config → ℕ → Bool
-test here c r = bit (here .receivers) r && eqb (at c r .mode) endedImproperly
+abbrev test : State → List Standing → ℕ → Bool
+test here stands r = bit (here .receivers) r && eqb (getD stands r (standingOf noOne) .mode) endedImproperly
 
 abbrev Inv-loop : tie.InvT-loop
 Inv-loop here c r₀ r = (r ≤ 16) × (someBelow (test here c) r ≡ false)
@@ -31,7 +33,7 @@ told : (c : tie.After-both Inv-loop μ-loop)
 told c = rw (c .both .ensures, c .before .has .ensures)
 
 returns : tie.Need-returns Inv-loop μ-loop
-unfolding someImproper
+unfolding someImproperIn
 returns c =
     let at = c .before .before .before in
     let a = at .before .before .args in
@@ -44,7 +46,7 @@ loop-again c =
     (search needs, some-more (test (a .here) (a .t2)) _ (at .loop .inv .1) (sym (told (c .before)) ∙ c .if1 .left))
 
 returns-2 : tie.Need-returns-2 Inv-loop μ-loop
-unfolding someImproper
+unfolding someImproperIn
 returns-2 c =
     let a = c .before .before .args in
     let inv = c .before .loop .inv in

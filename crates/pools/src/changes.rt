@@ -101,13 +101,14 @@ pub fn withdraw(p: Pool, sender: u8) -> Pool
     ensures { λ r. ⌜ r ≡ withdrawnFrom sender p ⌝ }
 {
     let n = searches::used(p);
-    let mut q = empty_pool();
+    let none = empty_pool();
+    let mut kept = none.entries;
     let mut at: usize = 0;
     let mut j: usize = 0;
     while j < n {
         let e = p.entries[j];
         if !entries::reserved_by(e, sender, 255) {
-            q.entries[at] = e;
+            kept[at] = e;
             at += 1;
         }
         j += 1;
@@ -115,6 +116,8 @@ pub fn withdraw(p: Pool, sender: u8) -> Pool
     if at == n {
         return p;
     }
-    q.count = at as u8;
-    q
+    Pool {
+        entries: kept,
+        count: at as u8,
+    }
 }

@@ -1,6 +1,7 @@
 use Prim.Native.Nat.{ℕ, _+_, _≤_, _<_, _-_}
 use mathlib.Core.Path.{_≡_, refl, sym, ap, ap₂, _∙_}
 use mathlib.Core.Bool.{Bool, not}
+use mathlib.Core.List.{List}
 use mathlib.Core.Logic.{⊎-elim}
 use native.Mathlib.Omega.{arith}
 use borrow.Author.Tests.{eq-eqb, ne-eqb}
@@ -18,36 +19,36 @@ use Rattle.pools.proofs.PoolLaws.{held-fits, count-withdrawn, store-is,
 use Rattle.pools.proofs.changes.withdraw.Statement.{statement}
 use Rattle.pools.proofs.changes.withdraw.Tie as tie
 
--- the entries of q, and so many of them
-abbrev stored : Pool → ℕ → Pool
-stored q n = record { entries = q .entries; count = n }
+-- so many of the entries that are kept
+abbrev stored : List Entry → ℕ → Pool
+stored kept n = record { entries = kept; count = n }
 
 abbrev Inv-loop : tie.InvT-loop
-Inv-loop sender p n q₀ at₀ j₀ q at j =
-    (n ≤ 16) × (j ≤ n) × (at ≤ j) × (stored q at ≡ pooled (passing (λ e. not (reservedBy sender any e)) (take j (held p))))
+Inv-loop sender p n kept₀ at₀ j₀ kept at j =
+    (n ≤ 16) × (j ≤ n) × (at ≤ j) × (stored kept at ≡ pooled (passing (λ e. not (reservedBy sender any e)) (take j (held p))))
 
 abbrev μ-loop : tie.MeasureT-loop
-μ-loop sender p n q₀ at₀ j₀ q at j = n - j
+μ-loop sender p n kept₀ at₀ j₀ kept at j = n - j
 
 loop-holds : tie.Need-loop-holds Inv-loop μ-loop
 unfolding passing pooled
 loop-holds c =
-    let p = c .before .before .args .t1 in
+    let p = c .before .before .before .args .t1 in
     let k : length (p .entries) ≡ 16 = search length-mapped in
-    (omega (arith, c .before .used .ensures, held-fits p), search needs, search needs, ap (λ (q : Pool). stored q 0) (c .empty-pool .ensures))
+    (omega (arith, c .before .before .used .ensures, held-fits p), search needs, search needs, ap (λ (q : Pool). stored (q .entries) 0) (c .before .empty-pool .ensures))
 
 loop-again : tie.Need-loop-again Inv-loop μ-loop
 loop-again c =
     let at = c .before .before .before .before in
-    let a = at .before .before .before .args in
-    let u = at .before .before .used .ensures in
+    let a = at .before .before .before .before .args in
+    let u = at .before .before .before .used .ensures in
     let inv = at .loop .inv in
     let l = c .before .before .before .loop-test .taken in
     let fits : length (held (a .t1)) ≤ 16 = omega (arith, u, inv .0) in
     let here : at .loop .j < length (held (a .t1)) = omega (arith, u, l) in
     let stays : Entry → Bool = λ e. not (reservedBy (a .sender) any e) in
     let kept = ap not (c .before .reserved-by .ensures) in
-    let turn = passing-turn (a .t1) fits (stored (at .loop .q) (at .loop .at)) (at .loop .j) here stays _ kept (inv .3) in (
+    let turn = passing-turn (a .t1) fits (stored (at .loop .kept) (at .loop .at)) (at .loop .j) here stays _ kept (inv .3) in (
       search needs,
       search needs,
       ⊎-elim (λ w. rw (w .2) (omega (arith, inv .2))) (λ w. rw (w .2) (omega (arith, inv .2))) (c .if1 .came),
@@ -59,35 +60,30 @@ loop-again c =
 
 -- after the last turn
 ended : (c : tie.After-loop Inv-loop μ-loop)
-    → let a = c .before .before .before .before .args in
-    stored (c .before .loop .q) (c .before .loop .at) ≡ pooled (passing (λ e. not (reservedBy (a .sender) any e)) (held (a .t1)))
+    → let a = c .before .before .before .before .before .args in
+    stored (c .before .loop .kept) (c .before .loop .at) ≡ pooled (passing (λ e. not (reservedBy (a .sender) any e)) (held (a .t1)))
 ended c =
-    let at = c .before .before .before in
+    let at = c .before .before .before .before in
     rw (take-all (c .before .loop .j) (held (at .before .args .t1)) (omega (arith, at .used .ensures, c .loop-test .left))) at (c .before .loop .inv .3)
 
 -- the reservations that left and the entries that stayed
 counts : (c : tie.After-loop Inv-loop μ-loop)
-    → let a = c .before .before .before .before .args in
-    reservations (a .sender) any (held (a .t1)) + c .before .loop .at ≡ c .before .before .before .used .result
+    → let a = c .before .before .before .before .before .args in
+    reservations (a .sender) any (held (a .t1)) + c .before .loop .at ≡ c .before .before .before .before .used .result
 counts c =
-    let at = c .before .before .before in
+    let at = c .before .before .before .before in
     count-withdrawn _ _ (ended c) ∙ sym (at .used .ensures)
 
 returns : tie.Need-returns Inv-loop μ-loop
 unfolding withdrawnFrom
 returns c =
-    let a = c .before .before .before .before .before .args in
+    let a = c .before .before .before .before .before .before .args in
     rw (eq-eqb (reservations (a .sender) any (held (a .t1))) 0 (omega (arith, counts (c .before), c .if2 .taken)))
-
-cast-q : tie.Need-cast-q Inv-loop μ-loop
-cast-q c =
-    let inv = c .before .before .loop .inv in
-    omega (arith, inv .0, inv .1, inv .2)
 
 returns-2 : tie.Need-returns-2 Inv-loop μ-loop
 unfolding withdrawnFrom
 returns-2 c =
-    let a = c .before .before .before .before .before .args in
+    let a = c .before .before .before .before .before .before .args in
     rw (ended (c .before), ne-eqb (reservations (a .sender) any (held (a .t1))) 0 (λ e. c .if2 .left (omega (arith, counts (c .before), e))))
 
 pub withdraw-spec : {M : Type 1} → statement M
@@ -109,5 +105,5 @@ withdraw-spec =
     (λ c. search needs)
     loop-again
     returns
-    cast-q
+    (λ c. let inv = c .before .before .loop .inv in omega (arith, inv .0, inv .1, inv .2))
     returns-2)

@@ -306,27 +306,6 @@ pub tick-number : (here : State) (c : Config) → firstNumber (kindRules here c 
 unfolding firstNumber wrongKind noExit noMessage notPlaced improperReceiver noTarget tooEarly sendFirst
 tick-number here c = refl
 
--- 11 and 12 come first, where the command names a subject
-pub subject-number :
-    (n : ℕ) (here : State) (c : Config) (k : Command)
-    → firstNumber (rules n here c k)
-    ≡ cond (names k && leb n (subjectOf k)) 11
-    (cond (names k && not (eqb (at c (subjectOf k) .mode) running)) 12
-    (firstNumber (kindRules here c k)))
-unfolding firstNumber noSubject notRunning
-subject-number n here c k = refl
-
--- 8, 9 and 10 before them
-pub fault-number :
-    (fault code n : ℕ) (here : State) (c : Config) (k : Command)
-    → firstNumber (turnRules fault code n here c k)
-    ≡ cond (eqb fault 8) 8
-    (cond (not (isCode code)) 9
-    (cond (eqb fault 10) 10
-    (firstNumber (rules n here c k))))
-unfolding firstNumber
-fault-number fault code n here c k = refl
-
 -- the rules from 8 to 12
 pub first-number :
     (fault code n : ℕ) (c : Config) (k : Command)

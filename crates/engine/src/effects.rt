@@ -94,7 +94,7 @@ pub(crate) fn arrive(t: u8, end: bool, mask: u16, me: Subject, k: Command) -> Su
 }
 
 // State t of subject s is an end, by the kinds of all states.
-pub(crate) fn ends_at(kinds: &[u8], s: u8, t: u8) -> bool
+fn ends_at(kinds: &[u8], s: u8, t: u8) -> bool
     ensures { λ r. ⌜ r ≡ endIn (now (kinds .entry)) s t ⌝ }
 {
     sets::byte(kinds, s as usize * MOST_STATES + (t % 32) as usize) == 7

@@ -144,6 +144,16 @@ pub(crate) fn asks_receivers(k: Command) -> bool
     }
 }
 
+// The same where the refusal depends on it.
+pub(crate) fn improper_for(here: State, stands: [Standing; MOST_SUBJECTS], k: Command) -> bool
+    ensures { λ r. ⌜ (asksReceivers k ≡ true → r ≡ someImproperIn here stands) ⌝ }
+{
+    if !asks_receivers(k) {
+        return false;
+    }
+    some_improper(here, stands)
+}
+
 // The rules of the command's kind, by what its subject has waited, its mask and its pool: 13 to 20.
 pub(crate) fn refuse_kind(
     here: State,

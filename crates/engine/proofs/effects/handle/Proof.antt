@@ -1,4 +1,4 @@
-use mathlib.Core.Path.{refl, _∙_}
+use mathlib.Core.Path.{refl}
 use borrow.Author.Needs.{needs}
 use Rattle.engine.proofs.effects.handle.Statement.{statement}
 use Rattle.engine.proofs.effects.handle.Tie as tie

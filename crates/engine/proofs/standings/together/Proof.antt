@@ -8,7 +8,7 @@ use Rattle.sets.proofs.Below.{table-same, change-start, change-turn, change-end
 use Rattle.model.specs.Sizes.{mostSubjects}
 use Rattle.configs.specs.Subjects.{noOne, eachSubject, withPool}
 use Rattle.configs.specs.declared.Subject.{Subject}
-use Rattle.engine.specs.InPlace.{standingOf, withStanding, withPools, withStands}
+use Rattle.engine.specs.InPlace.{standingOf, withStanding, withPools}
 use Rattle.engine.proofs.BesideLaws.{stands-at}
 use Rattle.engine.proofs.Machine.{machine-held}
 use Rattle.engine.proofs.standings.together.Statement.{statement}

@@ -144,7 +144,7 @@ pub(crate) fn asks_receivers(k: Command) -> bool
     }
 }
 
-// The same where the refusal depends on it.
+// A receiver has ended improperly, where the refusal depends on it.
 pub(crate) fn improper_for(here: State, stands: [Standing; MOST_SUBJECTS], k: Command) -> bool
     ensures { λ r. ⌜ (asksReceivers k ≡ true → r ≡ someImproperIn here stands) ⌝ }
 {

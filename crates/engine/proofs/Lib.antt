@@ -2,6 +2,9 @@ pub mod RuleLaws
 pub mod ArmLaws
 pub mod KeptOne
 pub mod StillLaws
+pub mod WordLaws
+pub mod ReadLaws
+pub mod QueueLaws
 pub mod SweepLaws
 pub mod KeptAll
 pub mod RoundLaws

@@ -255,6 +255,13 @@ turned-number fault code n subjects here end c k =
 pub onto : {A : Type 0} {x y z : A} → x ≡ y → z ≡ y → z ≡ x
 onto p q = q ∙ sym p
 
+-- of three rules the last does not hold where none does
+last-none : (a b d : Bool) → _≡_ {A = ℕ} (cond a 13 (cond b 14 (cond d 15 0))) 0 → d ≡ false
+last-none a b false h = refl
+last-none true b true h = absurd (omega (arith, h))
+last-none false true true h = absurd (omega (arith, h))
+last-none false false true h = absurd (omega (arith, h))
+
 -- of each command that names a subject, the first number of the rules of its kind
 module _ (here : State) (c : Config) (s : ℕ) where
   pub do-number : (e w : ℕ) → firstNumber (kindRules here c (Do s e w)) ≡ cond (not (eqb (here .kind) 1)) 13 (cond (leb (here .exits) e) 14 0)
@@ -283,6 +290,11 @@ module _ (here : State) (c : Config) (s : ℕ) where
       0))
   unfolding firstNumber wrongKind noExit noMessage notPlaced improperReceiver noTarget tooEarly sendFirst
   take-number e = refl
+
+  -- where it is accepted there is one
+  pub take-found : (e : ℕ) → firstNumber (kindRules here c (Take s e)) ≡ 0 → isNothing (wantedAt here e (at c s)) ≡ false
+  take-found e h =
+      last-none (not (eqb (here .kind) 3)) (leb (here .exits) e) (isNothing (wantedAt here e (at c s))) (sym (take-number e) ∙ h)
 
   pub run-number : firstNumber (kindRules here c (Run s)) ≡ cond (not (within 4 (here .kind) 6)) 13 0
   unfolding firstNumber wrongKind noExit noMessage notPlaced improperReceiver noTarget tooEarly sendFirst

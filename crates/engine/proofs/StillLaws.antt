@@ -31,6 +31,11 @@ module _ {A : Type 0} (f : ℕ → A → A) (d : A) (n : ℕ) where
   unfoldable pub changedIn : List A → ℕ → List A
   changedIn l mask = table (λ k. cond (bit mask k) (f k (getD l k d)) (getD l k d)) n
 
+  -- of none nothing is changed
+  pub changed-none : (l : List A) → length l ≡ n → changedIn l 0 ≡ l
+  unfolding changedIn
+  changed-none l e = table-of _ n d l e (λ k _. rw (bit-zero k))
+
   -- the list as it has become, and the members that are left: with those changed it is what it is to be
   pub record Left (l : List A) (mask : ℕ) (now : List A) (left : ℕ) : Type 0 where
     pub small : left < 2 ^ n

@@ -1,6 +1,7 @@
 pub mod Commands
 pub mod Reserve
 pub mod Effects
+pub mod Queues
 pub mod InPlace
 pub mod Rules
 pub mod Exact

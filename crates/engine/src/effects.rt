@@ -7,18 +7,23 @@ ghost use Rattle.pools.specs.declared.Pool.{Pool};
 ghost use Rattle.configs.specs.Subjects.{withPool};
 ghost use Rattle.configs.specs.declared.Subject.{Subject};
 ghost use Rattle.engine.specs.Effects.{targetOf, wantedAt, ranAs, started, ticked};
-ghost use Rattle.engine.specs.InPlace.{tookAs, ownAs, handles, waiters, reached, wakes, touchedAs, withCount, arrivedAs, standingOf, withStanding, endIn, settledAs};
-ghost use Rattle.engine.specs.declared.Command.the-variants.{Do};
+ghost use Rattle.engine.specs.InPlace.{tookAs, ownAs, handles, waiters, reached, wakes, touchedAs, arrivedAs, standingOf, withStanding, endIn, cameTo, cameWith};
+ghost use Rattle.engine.specs.Queues.{poolIn};
 use super::Command;
 use super::Standing;
 use super::marks;
+use super::queues;
+use super::queues::QUEUE_PLACES;
 use super::reserving;
 use super::standings;
 use configs::Subject;
 use model::Exit;
 use model::MOST_EXITS;
 use model::MOST_STATES;
+use model::MOST_SUBJECTS;
 use model::State;
+use pools::Entry;
+use pools::MOST_ENTRIES;
 use pools::Pool;
 use sets::Found;
 
@@ -100,58 +105,68 @@ fn ends_at(kinds: &[u8], s: u8, t: u8) -> bool
     sets::byte(kinds, s as usize * MOST_STATES + (t % 32) as usize) == 7
 }
 
-// A subject that stands so, with so many entries, whatever they are.
-fn counting(me: Subject, st: Standing, held: u8) -> Subject
-    ensures { λ r. ⌜ r ≡ withCount held (withStanding st me) ⌝ }
+// Somebody who stands so and has so many entries, whatever they are.
+fn somebody(st: Standing, held: u8) -> Subject
+    ensures stands { λ r. ⌜ standingOf r ≡ st ⌝ }
+    ensures holds { λ r. ⌜ r .pool .count ≡ held ⌝ }
 {
-    let mut x = standings::with_standing(me, st);
-    x.pool.count = held;
-    x
+    Subject {
+        mode: st.mode,
+        state: st.state,
+        waited: st.waited,
+        word: st.word,
+        mask: st.mask,
+        closed: [0; MOST_SUBJECTS],
+        pool: Pool {
+            entries: [Entry {
+                sender: 0,
+                typ: 0,
+                message: false,
+                content: 0,
+            }; MOST_ENTRIES],
+            count: held,
+        },
+    }
 }
 
-// Where the subject of Do, which has so many entries, stands in the end; refused, it stands where it stood.
-pub(crate) fn done(
+// Where s stands, by its queue, when it comes to state t; refused, where it stood.
+pub(crate) fn come(
     number: u8,
-    here: State,
     kinds: &[u8],
+    q: &[u64; QUEUE_PLACES],
     s: u8,
-    me: Subject,
+    t: u8,
     st: Standing,
-    held: u8,
-    exit: u8,
-    word: u32,
 ) -> Standing
-    ensures { λ r. ⌜ ((p : Pool) (q mask : ℕ) → p .count ≡ held → r ≡ standingOf (settledAs number here (now (kinds .entry)) s mask (withPool p (withStanding st me)) (Do q exit word))) ⌝ }
+    requires { ⌜ s < mostSubjects ⌝ }
+    ensures { λ r. ⌜ ((x : Subject) → r ≡ standingOf (cameTo number (now (kinds .entry)) s t (withPool (poolIn (now (q .entry)) s) (withStanding st x)))) ⌝ }
 {
     if number != 0 {
         return st;
     }
-    let t = exit_of(here, exit).target;
-    let mut x = counting(me, st, held);
-    x.word = word;
+    let x = somebody(st, queues::entries(q, s as usize));
     standings::standing_of(x.enter(t, ends_at(kinds, s, t)))
 }
 
-// Where the subject of a command that reaches others stands in the end; refused, it stands where it stood.
-pub(crate) fn settle(
+// The same with a new word.
+pub(crate) fn come_with(
     number: u8,
-    here: State,
     kinds: &[u8],
+    q: &[u64; QUEUE_PLACES],
     s: u8,
-    mask: u16,
-    me: Subject,
+    t: u8,
     st: Standing,
-    p: Pool,
-    k: Command,
+    word: u32,
 ) -> Standing
-    ensures { λ r. ⌜ r ≡ standingOf (settledAs number here (now (kinds .entry)) s mask (withPool p (withStanding st me)) k) ⌝ }
+    requires { ⌜ s < mostSubjects ⌝ }
+    ensures { λ r. ⌜ ((x : Subject) → r ≡ standingOf (cameWith number (now (kinds .entry)) s t word (withPool (poolIn (now (q .entry)) s) (withStanding st x)))) ⌝ }
 {
     if number != 0 {
         return st;
     }
-    let t = target(here, p, k);
-    let x = counting(me, st, p.count);
-    standings::standing_of(arrive(t, ends_at(kinds, s, t), mask, x, k))
+    let mut next = st;
+    next.word = word;
+    come(0, kinds, q, s, t, next)
 }
 
 // Take: the earliest message that matches is removed, its content becomes the word, the target is entered.
@@ -191,14 +206,6 @@ pub(crate) fn own(n: u8, here: State, end: bool, me: Subject, k: Command) -> Sub
         Command::Run { subject: _ } => run_own(n, here, end, me),
         _ => me,
     }
-}
-
-// The same by the kinds of all states.
-pub(crate) fn handle(n: u8, here: State, kinds: &[u8], s: u8, me: Subject, k: Command) -> Subject
-    ensures { λ r. ⌜ r ≡ ownAs n here (endIn (now (kinds .entry)) s (targetOf here me k)) me k ⌝ }
-{
-    let t = target(here, me.pool, k);
-    own(n, here, ends_at(kinds, s, t), me, k)
 }
 
 // Asleep or ended properly, a receiver starts at its initial state.

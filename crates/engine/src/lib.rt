@@ -2,11 +2,13 @@
 mod commands;
 mod effects;
 mod marks;
+mod queues;
 mod reserving;
 mod rules;
 mod standings;
 mod steps;
 mod tapes;
+mod words;
 
 pub use configs::Answer;
 pub use configs::Config;

@@ -1,7 +1,14 @@
 // The states that look after the own pool: close, open and ask-empty.
 ghost use mathlib.Core.Path.{_≡_};
+ghost use mathlib.Core.Bool.{_&&_, not};
+ghost use Prim.Native.Nat.{_<_};
+ghost use lib.Dec.{eqb};
+ghost use Rattle.model.specs.Sizes.{mostSubjects};
 ghost use Rattle.configs.specs.declared.Subject.{Subject};
 ghost use Rattle.engine.specs.Effects.{runExit, markFor, markAt, withMarks, marking};
+ghost use Rattle.engine.specs.Queues.{poolIn};
+use super::queues;
+use super::queues::QUEUE_PLACES;
 use configs::Subject;
 use model::MOST_SUBJECTS;
 use model::State;
@@ -74,4 +81,25 @@ pub(crate) fn run_exit(here: State, p: Pool) -> u8
 {
     let found = pools::count(p, here.sender, here.typ) != 0;
     if both(here.kind == 6, found) { 1 } else { 0 }
+}
+
+// The same by the queue of r.
+pub(crate) fn queue_exit(here: State, q: &[u64; QUEUE_PLACES], r: usize) -> u8
+    requires { ⌜ r < mostSubjects ⌝ }
+    ensures { λ e. ⌜ ((x : Subject) → x .pool ≡ poolIn (now (q .entry)) r → e ≡ runExit here x) ⌝ }
+{
+    if here.kind != 6 {
+        return 0;
+    }
+    if queues::count(q, r, here.sender, here.typ) == 0 {
+        return 0;
+    }
+    1
+}
+
+// Run changes the marks of its subject.
+pub(crate) fn changes(number: u8, here: State) -> bool
+    ensures { λ r. ⌜ r ≡ (eqb number 0 && not (eqb (here .kind) 6)) ⌝ }
+{
+    both(number == 0, here.kind != 6)
 }

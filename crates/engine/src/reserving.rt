@@ -2,7 +2,8 @@
 ghost use mathlib.Core.Path.{_≡_};
 ghost use mathlib.Core.Bool.{cond};
 ghost use Prim.Native.Nat.{ℕ, _<_};
-ghost use lib.ListN.{getD};
+ghost use lib.Dec.{ltb};
+ghost use lib.ListN.{getD, set};
 ghost use Rattle.model.specs.Sizes.{mostSubjects};
 ghost use Rattle.sets.specs.Masks.{bit, withBit};
 ghost use Rattle.model.specs.declared.Subject as model-subject;
@@ -10,11 +11,14 @@ ghost use Rattle.pools.specs.Pools.{held};
 ghost use Rattle.pools.specs.Rows.{hasRoom};
 ghost use Rattle.configs.specs.declared.Subject.{Subject};
 ghost use Rattle.engine.specs.InPlace.{servedAs, heardAs, answerTo};
+ghost use Rattle.engine.specs.Queues.{poolIn, poolsIn};
 ghost use Rattle.engine.specs.Reserve.{replyOf, withPlace, noted};
 use super::Command;
 use super::Places;
 use super::Reply;
 use super::effects;
+use super::queues;
+use super::queues::QUEUE_PLACES;
 use configs::Answer;
 use configs::Subject;
 use model::State;
@@ -78,7 +82,7 @@ pub(crate) fn serve(owner: model::Subject, here: State, s: u8, mode: u8, mark: u
 }
 
 // The mask with r, where it has given a place.
-pub(crate) fn grown(mask: u16, r: u8, placed: bool) -> u16
+fn grown(mask: u16, r: u8, placed: bool) -> u16
     requires { ⌜ r < mostSubjects ⌝ }
     ensures { λ q. ⌜ q ≡ cond placed (withBit mask r) mask ⌝ }
 {
@@ -86,6 +90,42 @@ pub(crate) fn grown(mask: u16, r: u8, placed: bool) -> u16
         return sets::with(mask, r);
     }
     mask
+}
+
+// The queue of r, who is in this mode and has these marks, as s asks for a place; and the mask with r, if it gave one.
+pub(crate) fn place(
+    owner: model::Subject,
+    here: State,
+    s: u8,
+    mode: u8,
+    mark: u32,
+    q: &mut [u64; QUEUE_PLACES],
+    r: u8,
+    mask: u16,
+) -> u16
+    requires { ⌜ r < mostSubjects ⌝ }
+    ensures result { λ g. ⌜ ((x : Subject) → x .mode ≡ mode → getD (x .closed) s 0 ≡ mark → x .pool ≡ poolIn (now (q .entry)) r → g ≡ cond (ltb (x .pool .count) (servedAs owner here s x .pool .count)) (withBit mask r) mask) ⌝ }
+    ensures q { λ _. ⌜ ((x : Subject) → x .mode ≡ mode → getD (x .closed) s 0 ≡ mark → x .pool ≡ poolIn (now (q .entry)) r → poolsIn (now (q .exit)) ≡ set (poolsIn (now (q .entry))) r (servedAs owner here s x .pool)) ⌝ }
+{
+    let i = r as usize;
+    let before = queues::entries(q, i);
+    let typ = effects::exit_of(here, 0).typ;
+    let room = queues::has_room(owner, q, i, s, typ);
+    let reply = reply_of(mode, mark, typ, room);
+    match reply {
+        Reply::Placed => queues::append(
+            q,
+            i,
+            Entry {
+                sender: s,
+                typ: typ,
+                message: false,
+                content: 0,
+            },
+        ),
+        _ => {}
+    }
+    grown(mask, r, before < queues::entries(q, i))
 }
 
 // The receiver is noted in the mask of its answer.

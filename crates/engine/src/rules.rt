@@ -3,13 +3,14 @@ ghost use mathlib.Core.Path.{_≡_};
 ghost use mathlib.Core.Bool.{true, false};
 ghost use Prim.Native.Nat.{ℕ, _<_};
 ghost use lib.Dec.{eqb};
+ghost use Rattle.model.specs.Valid.{exitAt};
+ghost use Rattle.pools.specs.Pools.{held, firstMessage};
 ghost use Rattle.configs.specs.Subjects.{at};
 ghost use Rattle.configs.specs.declared.Config.{Config};
-ghost use Rattle.configs.specs.declared.Subject.{Subject};
 ghost use Rattle.engine.specs.Commands.{names, subjectOf, isCode};
 ghost use Rattle.engine.specs.Effects.{wantedAt};
 ghost use Rattle.engine.specs.InPlace.{someImproperIn, Reads};
-ghost use Rattle.engine.specs.Rules.{missesPlace, isNothing, someImproper, asksReceivers, kindRules, firstNumber};
+ghost use Rattle.engine.specs.Rules.{missesPlace, someImproper, asksReceivers, kindRules, firstNumber};
 ghost use Rattle.engine.specs.Steps.{firstRules, turnRules};
 ghost use Rattle.engine.specs.declared.Command.the-variants.{Do, Reserve, Deliver, Take, Run, Expire, Cancel};
 use super::Command;
@@ -44,16 +45,12 @@ pub(crate) fn some_improper(here: State, stands: [Standing; MOST_SUBJECTS]) -> b
     false
 }
 
-// No message in the subject's pool matches the exit.
-fn no_message(here: State, exit: u8, p: Pool) -> bool
-    ensures { λ r. ⌜ ((x : Subject) → x .pool ≡ p → r ≡ isNothing (wantedAt here exit x)) ⌝ }
+// The message in a pool that the exit wants.
+fn wanted_in(here: State, exit: u8, p: Pool) -> Found
+    ensures { λ r. ⌜ r ≡ firstMessage (exitAt here exit .sender) (exitAt here exit .typ) (held p) ⌝ }
 {
     let wanted = effects::exit_of(here, exit);
-    let found = pools::first_message(p, wanted.sender, wanted.typ);
-    match found {
-        Found::At(_) => false,
-        Found::Nothing => true,
-    }
+    pools::first_message(p, wanted.sender, wanted.typ)
 }
 
 // Do.
@@ -70,14 +67,14 @@ pub(crate) fn refuse_do(here: State, exit: u8) -> u8
 }
 
 // Reserve.
-fn refuse_reserve(here: State) -> u8
+pub(crate) fn refuse_reserve(here: State) -> u8
     ensures { λ r. ⌜ ((c : Config) (s : ℕ) → r ≡ firstNumber (kindRules here c (Reserve s))) ⌝ }
 {
     if here.kind != 2 { 13 } else { 0 }
 }
 
 // Deliver.
-fn refuse_deliver(here: State, mask: u16, improper: bool) -> u8
+pub(crate) fn refuse_deliver(here: State, mask: u16, improper: bool) -> u8
     ensures { λ r. ⌜ ((c : Config) (s : ℕ) → at c s .mask ≡ mask → someImproper here c ≡ improper → r ≡ firstNumber (kindRules here c (Deliver s))) ⌝ }
 {
     if here.kind != 2 {
@@ -89,9 +86,9 @@ fn refuse_deliver(here: State, mask: u16, improper: bool) -> u8
     if improper { 17 } else { 0 }
 }
 
-// Take.
-fn refuse_take(here: State, exit: u8, p: Pool) -> u8
-    ensures { λ r. ⌜ ((c : Config) (s : ℕ) → at c s .pool ≡ p → r ≡ firstNumber (kindRules here c (Take s exit))) ⌝ }
+// Take, whose message was found or not.
+pub(crate) fn refuse_take(here: State, exit: u8, found: Found) -> u8
+    ensures { λ r. ⌜ ((c : Config) (s : ℕ) → wantedAt here exit (at c s) ≡ found → r ≡ firstNumber (kindRules here c (Take s exit))) ⌝ }
 {
     if here.kind != 3 {
         return 13;
@@ -99,11 +96,14 @@ fn refuse_take(here: State, exit: u8, p: Pool) -> u8
     if here.exits <= exit {
         return 14;
     }
-    if no_message(here, exit, p) { 15 } else { 0 }
+    match found {
+        Found::At(_) => 0,
+        Found::Nothing => 15,
+    }
 }
 
 // Run.
-fn refuse_run(here: State) -> u8
+pub(crate) fn refuse_run(here: State) -> u8
     ensures { λ r. ⌜ ((c : Config) (s : ℕ) → r ≡ firstNumber (kindRules here c (Run s))) ⌝ }
 {
     if !sets::is_within(4, here.kind, 6) {
@@ -114,7 +114,7 @@ fn refuse_run(here: State) -> u8
 }
 
 // Expire.
-fn refuse_expire(here: State, waited: u16, mask: u16, improper: bool) -> u8
+pub(crate) fn refuse_expire(here: State, waited: u16, mask: u16, improper: bool) -> u8
     ensures { λ r. ⌜ ((c : Config) (s : ℕ) → at c s .waited ≡ waited → at c s .mask ≡ mask → someImproper here c ≡ improper → r ≡ firstNumber (kindRules here c (Expire s))) ⌝ }
 {
     if here.timeout == 255 {
@@ -128,7 +128,7 @@ fn refuse_expire(here: State, waited: u16, mask: u16, improper: bool) -> u8
 }
 
 // Cancel.
-fn refuse_cancel(here: State) -> u8
+pub(crate) fn refuse_cancel(here: State) -> u8
     ensures { λ r. ⌜ ((c : Config) (s : ℕ) → r ≡ firstNumber (kindRules here c (Cancel s))) ⌝ }
 {
     if here.cancel == 255 { 18 } else { 0 }
@@ -144,25 +144,8 @@ pub(crate) fn asks_receivers(k: Command) -> bool
     }
 }
 
-// A receiver has ended improperly, where the refusal depends on it.
-pub(crate) fn improper_for(here: State, stands: [Standing; MOST_SUBJECTS], k: Command) -> bool
-    ensures { λ r. ⌜ (asksReceivers k ≡ true → r ≡ someImproperIn here stands) ⌝ }
-{
-    if !asks_receivers(k) {
-        return false;
-    }
-    some_improper(here, stands)
-}
-
 // The rules of the command's kind, by what its subject has waited, its mask and its pool: 13 to 20.
-pub(crate) fn refuse_kind(
-    here: State,
-    waited: u16,
-    mask: u16,
-    p: Pool,
-    improper: bool,
-    k: Command,
-) -> u8
+fn refuse_kind(here: State, waited: u16, mask: u16, p: Pool, improper: bool, k: Command) -> u8
     ensures { λ r. ⌜ ((c : Config) → (names k ≡ true → Reads (at c (subjectOf k)) waited mask p) → (asksReceivers k ≡ true → someImproper here c ≡ improper) → r ≡ firstNumber (kindRules here c k)) ⌝ }
 {
     match k {
@@ -173,7 +156,7 @@ pub(crate) fn refuse_kind(
         } => refuse_do(here, exit),
         Command::Reserve { subject: _ } => refuse_reserve(here),
         Command::Deliver { subject: _ } => refuse_deliver(here, mask, improper),
-        Command::Take { subject: _, exit } => refuse_take(here, exit, p),
+        Command::Take { subject: _, exit } => refuse_take(here, exit, wanted_in(here, exit, p)),
         Command::Run { subject: _ } => refuse_run(here),
         Command::Expire { subject: _ } => refuse_expire(here, waited, mask, improper),
         Command::Cancel { subject: _ } => refuse_cancel(here),

@@ -1,8 +1,11 @@
 // Where the subjects stand: the parts of a configuration while a tape runs.
 ghost use mathlib.Core.Path.{_≡_};
 ghost use Rattle.configs.specs.Subjects.{withPool};
-ghost use Rattle.engine.specs.InPlace.{standingOf, withStanding, standsOf, poolsOf, withPools, withStands};
+ghost use Rattle.engine.specs.InPlace.{standingOf, withStanding, standsOf, withPools, withStands};
+ghost use Rattle.engine.specs.Queues.{poolsIn};
 use super::Standing;
+use super::queues;
+use super::queues::QUEUE_PLACES;
 use configs::Config;
 use configs::Subject;
 use model::MOST_SUBJECTS;
@@ -56,35 +59,18 @@ pub(crate) fn stands_of(c: Config) -> [Standing; MOST_SUBJECTS]
     stands
 }
 
-// Every subject's pool.
-pub(crate) fn pools_of(c: Config) -> [Pool; MOST_SUBJECTS]
-    ensures { λ r. ⌜ r ≡ poolsOf c ⌝ }
-{
-    let lowest = c.subjects[0];
-    let own = lowest.pool;
-    let mut pools = [own; MOST_SUBJECTS];
-    let mut s: usize = 0;
-    while s < MOST_SUBJECTS {
-        let x = c.subjects[s];
-        let p = x.pool;
-        pools[s] = p;
-        s += 1;
-    }
-    pools
-}
-
-// The configuration whose subjects stand so and have these pools.
+// The configuration whose subjects stand so and have these queues.
 pub(crate) fn together(
     c: Config,
     stands: [Standing; MOST_SUBJECTS],
-    pools: [Pool; MOST_SUBJECTS],
+    q: &[u64; QUEUE_PLACES],
 ) -> Config
-    ensures { λ r. ⌜ r ≡ withPools pools (withStands stands c) ⌝ }
+    ensures { λ r. ⌜ r ≡ withPools (poolsIn (now (q .entry))) (withStands stands c) ⌝ }
 {
     let mut d = c;
     let mut s: usize = 0;
     while s < MOST_SUBJECTS {
-        d.subjects[s] = whole(c.subjects[s], stands[s], pools[s]);
+        d.subjects[s] = whole(c.subjects[s], stands[s], queues::pool_at(q, s));
         s += 1;
     }
     d

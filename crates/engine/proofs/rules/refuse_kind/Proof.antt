@@ -16,7 +16,9 @@ returns-3 c d =
     (λ own ends. c .refuse-deliver .ensures d _ (own refl .places) (ends refl))
 
 returns-4 : tie.Need-returns-4
-returns-4 c d = rw (c .before .before .k2 .given .1) (λ own ends. c .refuse-take .ensures d _ (own refl .holds))
+returns-4 c d =
+    rw (c .before .before .before .k2 .given .1)
+    (λ own ends. c .refuse-take .ensures d _ (rw (own refl .holds) (sym (c .before .wanted-in .ensures))))
 
 returns-5 : tie.Need-returns-5
 returns-5 c d = rw (c .before .enum-told3 .given .1) (λ own ends. c .refuse-run .ensures d _)
@@ -43,6 +45,7 @@ refuse-kind-spec =
     (λ c. search needs)
     (λ c κs. search needs)
     (λ c. search needs)
+    (λ c κs. search needs)
     (λ c κs. search needs)
     (λ c. search needs)
     (λ c κs. search needs)

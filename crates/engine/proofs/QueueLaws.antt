@@ -1,29 +1,25 @@
 -- Laws of the queues: what a line tells of the numbers, a line that is written entry by entry, and the pools when one queue was written.
 use mathlib.Core.Path.{_≡_, refl, sym, ap, _∙_}
 use mathlib.Core.Logic.{_≢_}
-use mathlib.Core.Bool.{Bool, true, false, not}
+use mathlib.Core.Bool.{Bool, true, false}
 use mathlib.Core.List.{List, [], _∷_, _++_, map, append-nil}
 use Prim.Native.Nat.{ℕ, zero, suc, _+_, _*_, _≤_, _<_, min}
 use native.Mathlib.Nat.{not-suc-le-zero, le-of-suc-le-suc}
 use native.Mathlib.Numerals.{add-one}
 use native.Mathlib.Omega.{arith}
-use borrow.Author.Tests.{eqb-true, eqb-false, ltb-true, ltb-false, not-true}
+use borrow.Author.Tests.{eqb-true, eqb-false, ltb-true, ltb-false}
 use lib.Dec.{eqb, ltb}
 use lib.ListN.{length, take, getD, set, length-append, length-set, List·getD-append}
 use lib.Seq.{take-suc, length-take-le, getD-at, set-getD, getD-set-same, getD-set-other}
 use Rattle.sets.specs.Below.{table}
-use Rattle.sets.specs.Lists.{allOf, passing, without}
-use Rattle.sets.proofs.Tests.{choose}
+use Rattle.sets.specs.Lists.{passing}
 use Rattle.sets.proofs.Below.{length-table, table-at, table-of}
-use Rattle.sets.proofs.Lists.{passing-more, passing-all, counted-none, map-stays}
-use Rattle.model.specs.Rules.{any}
+use Rattle.sets.proofs.Lists.{passing-more}
 use Rattle.model.specs.Sizes.{mostSubjects}
-use Rattle.pools.specs.Entries.{blankEntry, reservedBy, delivered}
-use Rattle.pools.specs.Pools.{pooled, reservations, deliveredIn, withdrawnFrom, takenAt}
+use Rattle.pools.specs.Entries.{blankEntry}
+use Rattle.pools.specs.Pools.{pooled}
 use Rattle.pools.specs.Sizes.{mostEntries}
 use Rattle.pools.specs.declared.Entry.{Entry}
-use Rattle.pools.specs.declared.Pool.{Pool}
-use Rattle.pools.proofs.PoolLaws.{held-pooled}
 use Rattle.engine.proofs.ReadLaws.{length-line, line-fits, line-at, pools-at}
 use Rattle.engine.specs.Queues.{entryOf, queueSize, queuePlaces, heldIn, lineIn, poolIn, poolsIn}
 
@@ -173,42 +169,3 @@ module _ (r : ℕ) (q₀ : List ℕ) where
 
         many : heldIn (set q (queueSize * r) n) r ≡ length es
         many = omega (arith, getD-set-same q (queueSize * r) n 0 (omega (arith, h .size)), h .short)
-
--- ---- what is done to a pool of a list
-
--- those who stay
-abbrev pub staying : ℕ → List Entry → List Entry
-staying s es = passing (λ e. not (reservedBy s any e)) es
-
--- none is a reservation of s
-none-reserved : (s : ℕ) (es : List Entry) → eqb (reservations s any es) 0 ≡ true → allOf (λ e. not (reservedBy s any e)) es ≡ true
-unfolding reservations
-none-reserved s es h = counted-none (reservedBy s any) es (eqb-true _ 0 h)
-
-stays : (s w : ℕ) (e : Entry) → not (reservedBy s any e) ≡ true → delivered s w e ≡ e
-unfolding delivered
-stays s w e h = rw (not-true (reservedBy s any e) h)
-
-pub delivered-pooled : (s w : ℕ) (es : List Entry) → deliveredIn s w (pooled es) ≡ pooled (map (delivered s w) es)
-unfolding deliveredIn
-delivered-pooled s w es =
-    rw (held-pooled es)
-    (choose (λ (p : Pool). p ≡ pooled (map (delivered s w) es)) (eqb (reservations s any es) 0)
-    (λ t. ap pooled (sym (map-stays (λ e. not (reservedBy s any e)) (delivered s w) es (none-reserved s es t) (stays s w))))
-    (λ _. refl))
-
-pub withdrawn-pooled : (s : ℕ) (es : List Entry) → withdrawnFrom s (pooled es) ≡ pooled (staying s es)
-unfolding withdrawnFrom
-withdrawn-pooled s es =
-    rw (held-pooled es)
-    (choose (λ (p : Pool). p ≡ pooled (staying s es)) (eqb (reservations s any es) 0)
-    (λ t. ap pooled (sym (passing-all (λ e. not (reservedBy s any e)) es (none-reserved s es t))))
-    (λ _. refl))
-
-pub taken-pooled : (es : List Entry) (i : ℕ) → takenAt (pooled es) i .pool ≡ pooled (without i es)
-unfolding takenAt
-taken-pooled es i = rw (held-pooled es)
-
-pub taken-content : (es : List Entry) (i : ℕ) → takenAt (pooled es) i .content ≡ getD es i blankEntry .content
-unfolding takenAt
-taken-content es i = rw (held-pooled es)

@@ -27,12 +27,12 @@ use sets::Found;
 use sets::both;
 use sets::either;
 
-// A queue's numbers, and those of all queues.
+// The numbers of a queue, and those of all queues.
 const QUEUE_SIZE: usize = 17;
 
 pub(crate) const QUEUE_PLACES: usize = 272;
 
-// How many places there are. A slice that is made of the array tells it of the list.
+// How many numbers there are. Who stores one asks first: a lent array does not tell its length, a slice of it does.
 fn places(q: &[u64; QUEUE_PLACES]) -> usize
     ensures { λ _. ⌜ length (now (q .entry)) ≡ queuePlaces ⌝ }
 {
@@ -60,7 +60,7 @@ pub(crate) fn entries(q: &[u64; QUEUE_PLACES], r: usize) -> u8
     used(q, r) as u8
 }
 
-// The number of a match: 1 for a hit, else 0.
+// 1 for a hit, else 0.
 fn hit(b: bool) -> u8
     ensures { λ r. ⌜ r ≡ cond b 1 0 ⌝ }
 {

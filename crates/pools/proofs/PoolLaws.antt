@@ -329,3 +329,33 @@ held-taken p i = held-pooled (without i (held p))
 pub well-taken : (p : Pool) (i : ℕ) → Well p → Well (takenAt p i .pool)
 unfolding takenAt
 well-taken p i h = well-pooled (without i (held p)) (omega (arith, without-short i (held p), well-short p h))
+
+-- ---- what they do to a pool of a list
+
+-- those who stay
+abbrev pub staying : ℕ → List Entry → List Entry
+staying s es = passing (λ e. not (reservedBy s any e)) es
+
+pub delivered-pooled : (s w : ℕ) (es : List Entry) → deliveredIn s w (pooled es) ≡ pooled (map (delivered s w) es)
+unfolding deliveredIn
+delivered-pooled s w es =
+    rw (held-pooled es)
+    (choose (λ (p : Pool). p ≡ pooled (map (delivered s w) es)) (eqb (reservations s any es) 0)
+    (λ t. ap pooled (sym (map-stays (λ e. not (reservedBy s any e)) (delivered s w) es (none-reserved s es t) (stays s w))))
+    (λ _. refl))
+
+pub withdrawn-pooled : (s : ℕ) (es : List Entry) → withdrawnFrom s (pooled es) ≡ pooled (staying s es)
+unfolding withdrawnFrom
+withdrawn-pooled s es =
+    rw (held-pooled es)
+    (choose (λ (p : Pool). p ≡ pooled (staying s es)) (eqb (reservations s any es) 0)
+    (λ t. ap pooled (sym (passing-all (λ e. not (reservedBy s any e)) es (none-reserved s es t))))
+    (λ _. refl))
+
+pub taken-pooled : (es : List Entry) (i : ℕ) → takenAt (pooled es) i .pool ≡ pooled (without i es)
+unfolding takenAt
+taken-pooled es i = rw (held-pooled es)
+
+pub taken-content : (es : List Entry) (i : ℕ) → takenAt (pooled es) i .content ≡ getD es i blankEntry .content
+unfolding takenAt
+taken-content es i = rw (held-pooled es)

@@ -6,9 +6,10 @@ use borrow.Author.Needs.{needs}
 use lib.ListN.{length, take, length-map}
 use lib.Seq.{take-all}
 use Rattle.pools.specs.Entries.{blankEntry, delivered}
+use Rattle.pools.proofs.PoolLaws.{delivered-pooled}
 use Rattle.engine.specs.Queues.{lineIn}
 use Rattle.engine.proofs.ReadLaws.{length-line, line-fits, line-at}
-use Rattle.engine.proofs.QueueLaws.{map-at, Begun, begun-none, begun-turn, begun-next, begun-end, delivered-pooled}
+use Rattle.engine.proofs.QueueLaws.{map-at, Begun, begun-none, begun-turn, begun-next, begun-end}
 use Rattle.engine.proofs.queues.deliver.Statement.{statement}
 use Rattle.engine.proofs.queues.deliver.Tie as tie
 

@@ -7,9 +7,10 @@ use lib.Seq.{take-all, length-take-le, getD-take}
 use Rattle.sets.specs.Lists.{without}
 use Rattle.sets.proofs.Lists.{length-without, without-before, without-after}
 use Rattle.pools.specs.Entries.{blankEntry}
+use Rattle.pools.proofs.PoolLaws.{taken-pooled}
 use Rattle.engine.specs.Queues.{entryOf, lineIn}
 use Rattle.engine.proofs.ReadLaws.{line-fits, line-at}
-use Rattle.engine.proofs.QueueLaws.{Begun, begun-start, begun-turn, begun-next, begun-stored, taken-pooled}
+use Rattle.engine.proofs.QueueLaws.{Begun, begun-start, begun-turn, begun-next, begun-stored}
 use Rattle.engine.proofs.queues.leave.Statement.{statement}
 use Rattle.engine.proofs.queues.leave.Tie as tie
 

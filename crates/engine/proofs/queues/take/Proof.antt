@@ -5,9 +5,10 @@ use borrow.Author.Needs.{needs}
 use borrow.Author.Tests.{eq-eqb, ne-eqb}
 use lib.ListN.{length}
 use Rattle.pools.specs.declared.Entry.{Entry}
+use Rattle.pools.proofs.PoolLaws.{taken-content}
 use Rattle.engine.specs.Queues.{lineIn}
 use Rattle.engine.proofs.ReadLaws.{line-fits, line-at}
-use Rattle.engine.proofs.QueueLaws.{pools-still, taken-content}
+use Rattle.engine.proofs.QueueLaws.{pools-still}
 use Rattle.engine.proofs.queues.take.Statement.{statement}
 use Rattle.engine.proofs.queues.take.Tie as tie
 

@@ -11,9 +11,10 @@ use Rattle.sets.specs.Lists.{passing}
 use Rattle.model.specs.Rules.{any}
 use Rattle.pools.specs.Entries.{blankEntry, reservedBy}
 use Rattle.pools.specs.declared.Entry.{Entry}
+use Rattle.pools.proofs.PoolLaws.{staying, withdrawn-pooled}
 use Rattle.engine.specs.Queues.{lineIn}
 use Rattle.engine.proofs.ReadLaws.{line-fits, line-at}
-use Rattle.engine.proofs.QueueLaws.{entryAt, passing-kept, passing-left, Begun, begun-none, begun-more, begun-past, begun-next, begun-stored, staying, withdrawn-pooled}
+use Rattle.engine.proofs.QueueLaws.{entryAt, passing-kept, passing-left, Begun, begun-none, begun-more, begun-past, begun-next, begun-stored}
 use Rattle.engine.proofs.queues.withdraw.Statement.{statement}
 use Rattle.engine.proofs.queues.withdraw.Tie as tie
 

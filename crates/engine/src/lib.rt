@@ -1,4 +1,5 @@
 // The stepping: one command on a configuration, coded commands, and whole tapes of them.
+mod acts;
 mod commands;
 mod effects;
 mod marks;
@@ -64,6 +65,12 @@ pub struct Standing {
     pub waited: u16,
     pub word: u32,
     pub mask: u16,
+}
+
+// The refusal of a command, and where its subject stands then.
+pub struct Acted {
+    pub number: u8,
+    pub stand: Standing,
 }
 
 // A command as it stood on the tape: its code, the subject that its line shows, and the command.

@@ -1,2 +1,5 @@
 pub mod TextLaws
+pub mod RunLaws
 pub mod PrintedLaws
+pub mod PrintedPieces
+pub mod PiecesLaws

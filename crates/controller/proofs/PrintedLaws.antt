@@ -1,25 +1,26 @@
--- Laws of what is printed of a tape: the lines put one after the other, the numbers in the buffer, and a tape in two pieces.
+-- Laws of what is printed of a tape: the lines put one after the other, the numbers in the buffer, and a tape of two parts.
 use mathlib.Core.Path.{_≡_, refl, sym, ap, ap₂, _∙_}
-use mathlib.Core.Bool.{cond}
+use mathlib.Core.Bool.{true, cond}
 use mathlib.Core.List.{List, [], _∷_, _++_, tail, append-assoc, append-nil}
-use Prim.Native.Nat.{ℕ, zero, suc, _+_, _*_, _/_, _%_, _≤_, _<_}
+use Prim.Native.Nat.{ℕ, zero, suc, _+_, _*_, _%_, _≤_, _<_}
 use native.Mathlib.Nat.{add-zero, add-suc, add-assoc}
 use native.Mathlib.Numerals.{add-one}
 use native.Mathlib.Omega.{arith}
-use borrow.Author.Tests.{lt-ltb, le-ltb}
-use lib.Dec.{eqb, ltb}
+use lib.Dec.{eqb}
 use lib.ListN.{length, take, drop, getD, length-append, length-drop}
-use lib.Seq.{getD-take, getD-drop, drop-append-le, drop-append-add, take-append-le, length-take-le}
-use Rattle.sets.proofs.Below.{table-at}
+use lib.Seq.{getD-take, getD-drop, drop-append-le, drop-append-add, take-append-le}
+use Rattle.model.specs.Valid.{valid}
 use Rattle.model.specs.declared.Model.{Model}
-use Rattle.configs.specs.declared.Config.{Config}
-use Rattle.configs.specs.declared.Stepped.{Stepped}
-use Rattle.engine.specs.Commands.{codeIn, shownIn}
+use Rattle.engine.specs.configs.Valid.{configValid}
+use Rattle.engine.specs.declared.Config.{Config}
+use Rattle.engine.specs.declared.Stepped.{Stepped}
+use Rattle.engine.specs.commands.Codes.{codeIn, shownIn}
 use Rattle.engine.specs.Steps.{codedStep}
-use Rattle.engine.specs.Tapes.{commands, bytesAt, after, lineAt, numberOf, ran, written}
+use Rattle.engine.specs.Tapes.{commands, bytesAt, after, lineAt, ran, written}
 use Rattle.controller.specs.Text.{rowText, pasted}
 use Rattle.controller.specs.Printed.{lineText, linesText, printed, rowsText, servedOf}
 use Rattle.controller.specs.declared.Served.{Served}
+use Rattle.controller.proofs.RunLaws.{ran-done, written-at}
 use Rattle.controller.proofs.TextLaws.{length-row, pasted-none, pasted-more, length-pasted}
 
 -- ---- the lines of a buffer
@@ -109,29 +110,19 @@ module _ (tape numbers : List ℕ) (first : ℕ) where
 
 -- ---- the numbers that the engine wrote
 
-module _ (m : Model) (c : Config) (tape old : List ℕ) (room : 4 * commands tape ≤ length old) where
-  written-at : (i j : ℕ) → i < commands tape → j < 4 → getD (written m c tape old) (4 * i + j) 0 ≡ numberOf (lineAt m c tape i) j
-  unfolding written
-  written-at i j h l =
-      let number : ℕ → ℕ = λ k. cond (ltb k (4 * commands tape)) (numberOf (lineAt m c tape (k / 4)) (k % 4)) (getD old k 0) in
-      let a : (4 * i + j) / 4 ≡ i = omega arith in
-      let b : (4 * i + j) % 4 ≡ j = omega arith in
-      let short = le-ltb (length old / 4) (commands tape) (omega arith) in
-      let below = lt-ltb (4 * i + j) (4 * commands tape) (omega arith) in
-      rw short (table-at {A = ℕ} number (length old) (4 * i + j) 0 (omega arith) ∙ (rw (below, a, b)))
-
+module _ (m : Model) (c : Config) (tape old : List ℕ) (v : valid m ≡ true) (g : configValid m c ≡ true) (room : 4 * commands tape ≤ length old) where
   pub rows-lines : (first i : ℕ) → i ≤ commands tape → rowsText tape (written m c tape old) first i ≡ linesText m c tape first i
   unfolding rowsText linesText lineText
   rows-lines first zero h = refl
   rows-lines first (suc i) h =
       let z : getD (written m c tape old) (4 * i) 0 ≡ lineAt m c tape i .refusal =
-      ap (λ (k : ℕ). getD (written m c tape old) k 0) (sym (add-zero (4 * i))) ∙ written-at i 0 (omega arith) (omega arith) in
+      ap (λ (k : ℕ). getD (written m c tape old) k 0) (sym (add-zero (4 * i))) ∙ written-at m c tape old v g room i 0 (omega arith) (omega arith) in
       rw (
         rows-lines first i (omega arith),
         z,
-        written-at i 1 (omega arith) (omega arith),
-        written-at i 2 (omega arith) (omega arith),
-        written-at i 3 (omega arith) (omega arith),
+        written-at m c tape old v g room i 1 (omega arith) (omega arith),
+        written-at m c tape old v g room i 2 (omega arith) (omega arith),
+        written-at m c tape old v g room i 3 (omega arith) (omega arith),
       )
 
   -- what is served, by what the engine answered and wrote
@@ -144,22 +135,16 @@ module _ (m : Model) (c : Config) (tape old : List ℕ) (room : 4 * commands tap
 
     pub served-is : (r : Stepped) (n : ℕ) → r ≡ ran m c tape (length old) → n ≡ length (rowsText tape numbers first (commands tape))
         → _≡_ {A = Served} (record { config = r .config; length = n }) (servedOf m c tape first)
-    unfolding ran
     served-is r n e h =
-        let p : r .config ≡ after m c tape (commands tape) = ap (λ (x : Stepped). x .config) e ∙ (rw (le-ltb (length old / 4) (commands tape) (omega arith))) in
+        let p : r .config ≡ after m c tape (commands tape) = ap (λ (x : Stepped). x .config) (e ∙ ran-done m c tape old v g room) in
         let q : n ≡ length (printed m c tape first) = h ∙ ap length rows-printed in
         λ i. record { config = p i; length = q i }
 
--- ---- whole commands at the front of a buffer
-
-pub commands-front : (k : ℕ) (l : List ℕ) → 8 * k ≤ length l → commands (take (8 * k) l) ≡ k
-commands-front k l h = omega (arith, length-take-le (8 * k) l h)
-
--- ---- a tape in two pieces, the first of whole commands
+-- ---- a tape of two parts, the first of whole commands
 
 module _ (t u : List ℕ) (whole : length t % 8 ≡ 0) where
-  commands-pieces : commands (t ++ u) ≡ commands t + commands u
-  commands-pieces = rw (length-append t u) (omega arith)
+  pub commands-parts : commands (t ++ u) ≡ commands t + commands u
+  commands-parts = rw (length-append t u) (omega arith)
 
   bytes-first : (i : ℕ) → i < commands t → bytesAt (t ++ u) i ≡ bytesAt t i
   bytes-first i h =
@@ -182,9 +167,9 @@ module _ (t u : List ℕ) (whole : length t % 8 ≡ 0) where
     after-second zero = rw (add-zero (commands t)) (after-first (commands t) (omega arith))
     after-second (suc j) = rw (add-suc (commands t) j) (ap₂ (λ (d : Config) (b : List ℕ). codedStep m d b .config) (after-second j) (bytes-second j))
 
-    -- input in pieces leads to the same configuration ..
-    pub after-pieces : after m c (t ++ u) (commands (t ++ u)) ≡ after m (after m c t (commands t)) u (commands u)
-    after-pieces = rw commands-pieces (after-second (commands u))
+    -- the parts one after the other lead to the same configuration ..
+    pub after-parts : after m c (t ++ u) (commands (t ++ u)) ≡ after m (after m c t (commands t)) u (commands u)
+    after-parts = rw commands-parts (after-second (commands u))
 
     line-first : (i : ℕ) → i < commands t → lineAt m c (t ++ u) i ≡ lineAt m c t i
     unfolding lineAt
@@ -209,6 +194,6 @@ module _ (t u : List ℕ) (whole : length t % 8 ≡ 0) where
         rw (add-suc (commands t) j, lines-second first j, bytes-second j, line-second j, ← (add-assoc first (commands t) j))
         (append-assoc (printed m c t first) (linesText m (after m c t (commands t)) u (first + commands t) j) _)
 
-    -- .. and prints the same
-    pub printed-pieces : (first : ℕ) → printed m c (t ++ u) first ≡ printed m c t first ++ printed m (after m c t (commands t)) u (first + commands t)
-    printed-pieces first = ap (linesText m c (t ++ u) first) commands-pieces ∙ lines-second first (commands u)
+    -- .. and print the same
+    pub printed-parts : (first : ℕ) → printed m c (t ++ u) first ≡ printed m c t first ++ printed m (after m c t (commands t)) u (first + commands t)
+    printed-parts first = ap (linesText m c (t ++ u) first) commands-parts ∙ lines-second first (commands u)

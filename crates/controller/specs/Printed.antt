@@ -3,8 +3,8 @@ use mathlib.Core.List.{List, [], _∷_, _++_}
 use Prim.Native.Nat.{ℕ, zero, suc, _+_, _*_}
 use lib.ListN.{length, getD}
 use Rattle.model.specs.declared.Model.{Model}
-use Rattle.configs.specs.declared.Config.{Config}
-use Rattle.engine.specs.Commands.{codeIn, shownIn}
+use Rattle.engine.specs.declared.Config.{Config}
+use Rattle.engine.specs.commands.Codes.{codeIn, shownIn}
 use Rattle.engine.specs.Tapes.{commands, bytesAt, after, lineAt}
 use Rattle.engine.specs.declared.Line.{Line}
 use Rattle.controller.specs.Text.{rowText}

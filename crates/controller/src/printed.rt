@@ -1,10 +1,12 @@
 // The text of a tape: a line for each command.
 ghost use mathlib.Core.Path.{_≡_};
-ghost use mathlib.Core.Bool.{cond};
+ghost use mathlib.Core.Bool.{cond, true};
 ghost use mathlib.Core.List.{_∷_, []};
 ghost use Prim.Native.Nat.{_+_, _*_, _≤_, _<_, _^_};
 ghost use lib.Dec.{eqb};
 ghost use lib.ListN.{length};
+ghost use Rattle.model.specs.Valid.{valid};
+ghost use Rattle.engine.specs.configs.Valid.{configValid};
 ghost use Rattle.engine.specs.Tapes.{commands};
 ghost use Rattle.controller.specs.Printed.{rowsText, printed, servedOf};
 ghost use Rattle.controller.specs.Text.{pasted, rowText};
@@ -86,9 +88,12 @@ pub(crate) fn serve(
     first: u64,
     out: &mut [u8],
 ) -> Served
+    requires { ⌜ valid m ≡ true ⌝ }
+    requires { ⌜ configValid m c ≡ true ⌝ }
     requires { ⌜ 4 * commands (now tape) ≤ length (now numbers) ⌝ }
     requires { ⌜ 147 * commands (now tape) ≤ length (now out) ⌝ }
     requires { ⌜ first + commands (now tape) < 2 ^ 64 ⌝ }
+    ensures config { λ r. ⌜ configValid m (r .config) ≡ true ⌝ }
     ensures fits { λ r. ⌜ r .length ≤ 147 * commands (now (tape .entry)) ⌝ }
     ensures served { λ r. ⌜ r ≡ servedOf m c (now (tape .entry)) first ⌝ }
     ensures text { λ _. ⌜ now (out .exit) ≡ pasted (now (out .entry)) 0 (printed m c (now (tape .entry)) first) ⌝ }

@@ -1,31 +1,25 @@
 -- What holds along a run of commands, and after any commands from a fresh start.
 use mathlib.Core.Path.{_≡_, refl}
 use mathlib.Core.Bool.{Bool, true, false}
-use mathlib.Core.List.{List, [], _∷_, _++_}
+use mathlib.Core.List.{List, [], _∷_}
 use borrow.Author.Tests.{eqb-true, eqb-false}
 use lib.Dec.{eqb}
 use Rattle.sets.specs.Lists.{allOf}
 use Rattle.sets.proofs.Tests.{and-both}
 use Rattle.model.specs.Valid.{valid}
 use Rattle.model.specs.declared.Model.{Model}
-use Rattle.configs.specs.Answers.{refusalOf}
-use Rattle.configs.specs.Fresh.{freshConfig, freshOf}
-use Rattle.configs.specs.Subjects.{Held}
-use Rattle.configs.specs.Valid.{configValid}
-use Rattle.configs.specs.declared.Config.{Config}
-use Rattle.engine.specs.Rules.{guarded}
+use Rattle.engine.specs.configs.Answers.{refusalOf}
+use Rattle.engine.specs.configs.Fresh.{freshConfig, freshOf}
+use Rattle.engine.specs.configs.Subjects.{Held}
+use Rattle.engine.specs.configs.Valid.{configValid}
+use Rattle.engine.specs.declared.Config.{Config}
+use Rattle.engine.specs.commands.Rules.{guarded}
 use Rattle.engine.specs.Steps.{acted, stepped}
 use Rattle.engine.specs.declared.Command.{Command}
 use Rattle.engine_promises.specs.Runs.{runFrom}
 use Rattle.engine_promises.proofs.Always.{refused-keeps, step-keeps, step-held, always-valid, always-held}
 use Rattle.engine_promises.proofs.Refusals.{effectOf, accepted-is}
 use Rattle.demands.specs.Shares.{atLast}
-
--- commands in two parts
-pub run-append : (m : Model) (c : Config) (ks js : List Command) → runFrom m c (ks ++ js) ≡ runFrom m (runFrom m c ks) js
-unfolding runFrom
-run-append m c [] js = refl
-run-append m c (k ∷ ks) js = run-append m (stepped m c k .config) ks js
 
 module _ (m : Model) (v : valid m ≡ true) (ok : Command → Bool) (Q : Config → Type 0)
     (keeps : (c : Config) (k : Command) → Held c → configValid m c ≡ true → ok k ≡ true → refusalOf (stepped m c k .answer) ≡ 0 → Q c → Q (effectOf m c k .config)) where

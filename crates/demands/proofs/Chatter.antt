@@ -18,22 +18,26 @@ use Rattle.model.specs.Rules.{any}
 use Rattle.model.specs.Sizes.{mostSubjects}
 use Rattle.model.specs.Valid.{noSubject, exitAt, valid}
 use Rattle.model.specs.declared.Model.{Model}
-use Rattle.pools.specs.Entries.{fits, reservation, reservedBy, delivered}
-use Rattle.pools.specs.Pools.{held, deliveredIn}
-use Rattle.pools.specs.declared.Entry.{Entry}
-use Rattle.pools.specs.declared.Pool.{Pool}
-use Rattle.configs.specs.Answers.{refusalOf, isYes}
-use Rattle.configs.specs.Fresh.{freshOf}
-use Rattle.configs.specs.Shares.{shareOf}
-use Rattle.configs.specs.Subjects.{asleep, running, endedProperly, endedImproperly, at, hereOf, put, withPool, Held}
-use Rattle.configs.specs.Valid.{typeOf, configValid}
-use Rattle.configs.specs.declared.Config.{Config}
-use Rattle.configs.specs.declared.Subject.{Subject}
-use Rattle.configs.proofs.ModelFacts.{subject-there}
-use Rattle.configs.proofs.ValidLaws.{at-put-other, at-each}
-use Rattle.engine.specs.Commands.{names, subjectOf}
-use Rattle.engine.specs.Effects.{started, deliveredAs, wantedAt, deliveredTo, delivering, doing, takingAt, taking, runningOn, ticked, ticking}
-use Rattle.engine.specs.Reserve.{isClosed}
+use Rattle.engine.specs.pools.Sizes.{mostEntries}
+use Rattle.engine.specs.pools.Entries.{fits, reservation, reservedBy, delivered}
+use Rattle.engine.specs.pools.Pools.{held, deliveredIn}
+use Rattle.engine.specs.declared.Entry.{Entry}
+use Rattle.engine.specs.declared.Pool.{Pool}
+use Rattle.engine.specs.configs.Answers.{refusalOf, isYes}
+use Rattle.engine.specs.configs.Fresh.{freshOf}
+use Rattle.engine.specs.configs.Shares.{shareOf}
+use Rattle.engine.specs.configs.Subjects.{asleep, running, endedProperly, endedImproperly, at, hereOf, put, withPool, Held}
+use Rattle.engine.specs.configs.Valid.{typeOf, configValid}
+use Rattle.engine.specs.declared.Config.{Config}
+use Rattle.engine.specs.declared.Subject.{Subject}
+use Rattle.engine.proofs.Cited.{subject-there, at-put-other, at-each}
+use Rattle.engine.specs.commands.Codes.{names, subjectOf}
+use Rattle.engine.specs.commands.Deliver.{started, deliveredAs, deliveredTo, delivering}
+use Rattle.engine.specs.commands.Take.{wantedAt, takingAt, taking}
+use Rattle.engine.specs.commands.Doing.{doing}
+use Rattle.engine.specs.commands.Runs.{runningOn}
+use Rattle.engine.specs.commands.Tick.{ticked, ticking}
+use Rattle.engine.specs.commands.Reserve.{isClosed}
 use Rattle.engine.specs.Steps.{effect, endsAt, stepped}
 use Rattle.engine.specs.declared.Command.{Command}
 use Rattle.engine.specs.declared.Command.the-variants.{Do, Reserve, Deliver, Take, Run, Expire, Cancel, Tick}
@@ -44,9 +48,10 @@ use Rattle.engine_promises.specs.Runs.{runFrom}
 use Rattle.engine_promises.proofs.Places.{mask-other}
 use Rattle.engine_promises.proofs.Pools.{leaving-others}
 use Rattle.engine_promises.proofs.Refusals.{effectOf, accepted-tells}
+use Rattle.engine_promises.proofs.TapeRuns.{run-append}
 use Rattle.demands.specs.Shares.{holds, atLast, Asks, MayHave, Gets, ofProbe, NeverCrowdedOut}
 use Rattle.demands.proofs.YesNo.{yes-valid, yes-there}
-use Rattle.demands.proofs.Along.{run-append, along, last-held, last-valid}
+use Rattle.demands.proofs.Along.{along, last-held, last-valid}
 use Rattle.demands.proofs.PoolMoves.{Moved, pool-moved}
 use Rattle.demands.proofs.Senders.{delivered-sender, countOf}
 use Rattle.demands.proofs.Limits.{gets-exactly}
@@ -110,8 +115,8 @@ alone-delivered receives initial s word x =
     choose
     (LeftAlone x)
     receives
-    (λ _. alone-started initial (deliveredIn s word (x .pool)) x)
-    (λ _. alone-by x (withPool (deliveredIn s word (x .pool)) x) refl refl refl refl)
+    (λ _. alone-started initial (deliveredIn mostEntries s word (x .pool)) x)
+    (λ _. alone-by x (withPool (deliveredIn mostEntries s word (x .pool)) x) refl refl refl refl)
 
 -- a tick changes the wait alone
 alone-ticked : (x : Subject) → LeftAlone x (ticked x)
@@ -134,7 +139,7 @@ module _ (m : Model) (c : Config) (h : Held c) (r : ℕ) (l : r < mostSubjects) 
   unfolding effect doing taking runningOn delivering ticking
   left-alone (Do s e w) fine d = alone-put s _ (d refl)
   left-alone (Reserve s) fine d =
-      let a = accepted-tells m c (Reserve s) fine refl in
+      let a = accepted-tells m c (Reserve s) fine in
       let j = subject-there m (a .model) s (a .there) in
       let e = reserving-at (m .subjects) (hereOf m c s) c s (h .subjects) j r l in
       alone-by
@@ -309,11 +314,11 @@ module _ (m : Model) (c : Config) (owner healthy probe : ℕ) (chatter : List Co
 -- ---- never crowded out
 
 -- what a sender gets after the commands is what it may have, and so after more commands
-gets-after : (m : Model) (owner s : ℕ) (ks more : List Command) → isYes (shareOf m owner) ≡ true → Asks m (runFrom m (atLast m ks) more) owner s
+gets-after : (m : Model) (owner s : ℕ) (ks more : List Command) → isYes (shareOf mostEntries m owner) ≡ true → Asks m (runFrom m (atLast m ks) more) owner s
     → Gets m (runFrom m (atLast m ks) more) owner s ↔ MayHave m (runFrom m (atLast m ks) more) owner s
 gets-after m owner s ks more shares a =
     let e = run-append m (freshOf m .config) ks more in
-    rw (← e) (gets-exactly m owner s (ks ++ more) shares (rw e a) .0)
+    rw (← e) (gets-exactly m owner (ks ++ more) shares s (rw e a) .0)
 
 -- a healthy sender that asks for a place asks for it still after all the chatter, and gets it then exactly when it would have
 -- got it before
@@ -326,5 +331,5 @@ never-crowded-out m owner healthy probe ks chatter shares other apart o a =
     let still = still-asks m (atLast m ks) owner healthy probe chatter v h g there other apart o a in
     let may = may-as-before m (atLast m ks) owner healthy probe chatter v h g there other apart o a in
     let later = gets-after m owner healthy ks chatter shares still in
-    let now = gets-exactly m owner healthy ks shares a .0 in
+    let now = gets-exactly m owner ks shares healthy a .0 in
     (still, (λ q. now .1 (may .0 (later .0 q)), λ q. later .1 (may .1 (now .0 q))))

@@ -15,33 +15,39 @@ use Rattle.model.specs.Valid.{valid}
 use Rattle.model.specs.Valid as model-valid
 use Rattle.model.specs.declared.Model.{Model}
 use Rattle.model_promises.specs.Samples as samples
-use Rattle.pools.specs.Entries as entries
-use Rattle.pools.specs.Pools as pools
-use Rattle.pools.specs.Rows as rows
-use Rattle.pools.specs.Valid as pool-valid
-use Rattle.configs.specs.Answers.{refusalOf}
-use Rattle.configs.specs.Fresh.{freshConfig}
-use Rattle.configs.specs.Fresh as fresh
-use Rattle.configs.specs.Shares as pool-shares
-use Rattle.configs.specs.Subjects.{Held}
-use Rattle.configs.specs.Subjects as subjects
-use Rattle.configs.specs.Valid.{configValid}
-use Rattle.configs.specs.Valid as config-valid
-use Rattle.configs.specs.declared.Config.{Config}
-use Rattle.configs.specs.declared.Stepped.{Stepped}
-use Rattle.configs.proofs.ValidLaws.{fresh-held, fresh-valid}
-use Rattle.engine.specs.Commands as commands
-use Rattle.engine.specs.Effects as effects
-use Rattle.engine.specs.Reserve as reserve
-use Rattle.engine.specs.Rules as rules
+use Rattle.engine.specs.pools.Entries as entries
+use Rattle.engine.specs.pools.Pools as pools
+use Rattle.engine.specs.pools.Rows as rows
+use Rattle.engine.specs.pools.Valid as pool-valid
+use Rattle.engine.specs.configs.Answers.{refusalOf}
+use Rattle.engine.specs.configs.Fresh.{freshConfig}
+use Rattle.engine.specs.configs.Fresh as fresh
+use Rattle.engine.specs.configs.Shares as pool-shares
+use Rattle.engine.specs.configs.Subjects.{Held}
+use Rattle.engine.specs.configs.Subjects as subjects
+use Rattle.engine.specs.configs.Valid.{configValid}
+use Rattle.engine.specs.configs.Valid as config-valid
+use Rattle.engine.specs.declared.Config.{Config}
+use Rattle.engine.specs.declared.Stepped.{Stepped}
+use Rattle.engine.proofs.Cited.{fresh-held, fresh-valid}
+use Rattle.engine.specs.commands.Codes as codes
+use Rattle.engine.specs.commands.Deliver as deliver
+use Rattle.engine.specs.commands.Doing as doing
+use Rattle.engine.specs.commands.Leave as leave
+use Rattle.engine.specs.commands.Reserve as reserve
+use Rattle.engine.specs.commands.Rules as rules
+use Rattle.engine.specs.commands.Runs as runs
+use Rattle.engine.specs.commands.Take as take
+use Rattle.engine.specs.commands.Tick as tick
+use Rattle.engine.specs.commands.Turns as turns
 use Rattle.engine.specs.Steps.{acted, stepped}
 use Rattle.engine.specs.Steps as steps
 use Rattle.engine.specs.Tapes as tapes
 use Rattle.engine.specs.declared.Command.{Command}
 use Rattle.engine_promises.specs.Runs.{runFrom}
-use Rattle.engine_promises.specs.Runs as runs
+use Rattle.engine_promises.specs.Runs as promised
 use Rattle.engine_promises.proofs.Always.{step-keeps, step-held}
-use Rattle.demands.specs.Due.{refusal}
+use Rattle.demands.specs.Due.{stepRefusal}
 use Rattle.demands.specs.Orchard as orchards
 use Rattle.demands.specs.Shares.{atLast}
 use Rattle.demands.specs.Shares as shares
@@ -72,13 +78,19 @@ unfolding
     pool-shares.rowsName pool-shares.noneTwice pool-shares.hasRow pool-shares.canSend pool-shares.sendersHaveRows pool-shares.limitsFit pool-shares.sharedOut pool-shares.shareOf
     subjects.eachSubject subjects.entered subjects.nobody
     config-valid.marksRight config-valid.fieldsRight config-valid.subjectValid config-valid.isNobody config-valid.subjectRight config-valid.placeRight config-valid.placesRight config-valid.configValid
-    commands.commandFrom
-    effects.runExit effects.targetOf effects.doing effects.started effects.deliveredAs effects.delivering effects.takingAt effects.taking effects.markFor effects.markAt effects.withMarks effects.marking effects.runningOn effects.withdrawing effects.leaving effects.ticked effects.ticking
+    codes.commandFrom codes.bytesOf
+    deliver.started deliver.deliveredAs deliver.delivering
+    doing.doing
+    leave.withdrawing leave.leaving
+    runs.runExit runs.markFor runs.markAt runs.withMarks runs.marking runs.runningOn
+    take.takingAt take.taking
+    tick.ticked tick.ticking
+    turns.targetOf
     reserve.isClosed reserve.replyOf reserve.withPlace reserve.noted reserve.turnAs reserve.turnOf reserve.rounds reserve.answered reserve.reserving
-    rules.noSubject rules.notRunning rules.wrongKind rules.noExit rules.noMessage rules.placeMissing rules.someImproper rules.notPlaced rules.improperReceiver rules.noTarget rules.tooEarly rules.canDeliver rules.sendFirst rules.guarded
+    rules.noMessage rules.placeMissing rules.someImproper rules.canDeliver rules.guarded
     steps.effect steps.acts steps.acted steps.stepped steps.codedAs
-    tapes.after tapes.lineAt
-    runs.runFrom actedFrom
+    tapes.after tapes.lineAt tapes.ran
+    promised.runFrom promised.commandsIn promised.commandsOf actedFrom
     orchards.orchard
     shares.holds shares.limitOf
 computing = tt
@@ -105,5 +117,5 @@ module _ (m : Model) (v : valid m ≡ true) where
   at-next P ks k p = rw (step-acts m v (atLast m ks) k (last-valid m v ks), last-acts ks) p
 
   -- so the number of its refusal
-  pub refusal-next : {n : ℕ} (ks : List Command) (k : Command) → refusalOf (acted m (actedFrom m (freshConfig m) ks) k .answer) ≡ n → refusal m (atLast m ks) k ≡ n
+  pub refusal-next : {n : ℕ} (ks : List Command) (k : Command) → refusalOf (acted m (actedFrom m (freshConfig m) ks) k .answer) ≡ n → stepRefusal m (atLast m ks) k ≡ n
   refusal-next {n} ks k e = at-next (λ x. refusalOf (x .answer) ≡ n) ks k e

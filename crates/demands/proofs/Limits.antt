@@ -20,25 +20,22 @@ use Rattle.model.specs.Sizes.{mostSubjects, mostRows}
 use Rattle.model.specs.Valid.{subjectAt, rowAt}
 use Rattle.model.specs.declared.Model.{Model}
 use Rattle.model.specs.declared.Subject.{Subject}
-use Rattle.pools.specs.Sizes.{mostEntries}
-use Rattle.pools.specs.Entries.{blankEntry, matches}
-use Rattle.pools.specs.Pools.{held}
-use Rattle.pools.specs.Rows.{rowCount, rowKept, rowHasRoom, rowsKept, hasRoom}
-use Rattle.pools.specs.Valid.{contentRight, senderThere, typeThere, entryValid}
-use Rattle.pools.specs.declared.Entry.{Entry}
-use Rattle.configs.specs.Answers.{refusalOf, isYes}
-use Rattle.configs.specs.Shares.{hasRow, shareOf}
-use Rattle.configs.specs.Subjects.{running, endedImproperly, at, hereOf, Held}
-use Rattle.configs.specs.Valid.{typeOf, configValid}
-use Rattle.configs.specs.declared.Config.{Config}
-use Rattle.configs.specs.declared.Stepped.{Stepped}
-use Rattle.configs.specs.declared.Subject as config-subject
-use Rattle.configs.proofs.Good.{GoodSubject, GoodConfig}
-use Rattle.configs.proofs.IndexFacts.{few-rows}
-use Rattle.configs.proofs.ModelFacts.{subject-there}
-use Rattle.configs.proofs.ValidLaws.{config-good, if-true, true-if}
-use Rattle.engine.specs.Reserve.{isClosed, replyOf, rounds, reserving}
-use Rattle.engine.specs.Rules.{noSubject, notRunning, wrongKind, noExit, noMessage, notPlaced, improperReceiver, noTarget, tooEarly, sendFirst, guarded}
+use Rattle.engine.specs.pools.Sizes.{mostEntries}
+use Rattle.engine.specs.pools.Entries.{blankEntry, matches}
+use Rattle.engine.specs.pools.Pools.{held}
+use Rattle.engine.specs.pools.Rows.{rowCount, rowKept, rowHasRoom, rowsKept, hasRoom}
+use Rattle.engine.specs.pools.Valid.{contentRight, senderThere, typeThere, entryValid}
+use Rattle.engine.specs.declared.Entry.{Entry}
+use Rattle.engine.specs.configs.Answers.{refusalOf, isYes}
+use Rattle.engine.specs.configs.Shares.{hasRow, shareOf}
+use Rattle.engine.specs.configs.Subjects.{running, endedImproperly, at, hereOf, Held}
+use Rattle.engine.specs.configs.Valid.{typeOf, configValid}
+use Rattle.engine.specs.declared.Config.{Config}
+use Rattle.engine.specs.declared.Stepped.{Stepped}
+use Rattle.engine.specs.declared.Subject as config-subject
+use Rattle.engine.proofs.Cited.{GoodSubject, GoodConfig, few-rows, subject-there, config-good, if-true, true-if}
+use Rattle.engine.specs.commands.Reserve.{isClosed, replyOf, rounds, reserving}
+use Rattle.engine.specs.commands.Rules.{guarded}
 use Rattle.engine.specs.Steps.{effect, acts, acted, stepped}
 use Rattle.engine.specs.declared.Command.the-variants.{Reserve}
 use Rattle.engine.specs.declared.Reply.the-variants.{Placed, Improper, Closed, Full}
@@ -46,7 +43,7 @@ use Rattle.engine.proofs.RoundLaws.{isReply, is-reply}
 use Rattle.engine_promises.specs.Reserves.{PlacedAtEnd}
 use Rattle.engine_promises.proofs.Places.{answer-is, placed-only, placed-all}
 use Rattle.engine_promises.proofs.Steps.{reserve-answered, reserve-places}
-use Rattle.demands.specs.Shares.{RowFor, holds, limitOf, atLast, WithinLimits, Asks, MayHave, placedIn, Gets, GetsNone, GetsExactly}
+use Rattle.demands.specs.Shares.{RowFor, holds, limitOf, atLast, LimitsKept, WithinLimits, Asks, MayHave, placedIn, Gets, GetsNone, GetsExactly}
 use Rattle.demands.proofs.Counting.{fewer}
 use Rattle.demands.proofs.YesNo.{row-of, has-row, sends-of, yes-valid, yes-there, yes-shared, limit-is-the-rows}
 use Rattle.demands.proofs.Along.{last-held, last-valid, step-acts}
@@ -66,7 +63,7 @@ FromRows own es = allOf (λ (e : Entry). hasRow own (e .sender)) es ≡ true
 
 -- ---- the rows of a pool that is shared out
 
-module _ (m : Model) (owner : ℕ) (shares : isYes (shareOf m owner) ≡ true) where
+module _ (m : Model) (owner : ℕ) (shares : isYes (shareOf mostEntries m owner) ≡ true) where
   -- a test of every place for a row tells of each row
   of-row : (f : ℕ → Bool) → allBelow (λ k. not (ltb k (subjectAt m owner .rows)) || f k) mostRows ≡ true → (k : ℕ) → k < subjectAt m owner .rows → f k ≡ true
   of-row f h k l =
@@ -156,7 +153,7 @@ module _ (m : Model) (owner : ℕ) (shares : isYes (shareOf m owner) ≡ true) w
           rw (yes-shared m owner shares .allTypes k l, ne-eqb (w .sender) any (yes-shared m owner shares .oneSender k l), and-end (eqb (w .sender) s))
 
       -- below its limit, in a pool with a free place, there is room
-      room-below : length es < mostEntries → countOf s es < limitOf (subjectAt m owner) s → hasRoom (subjectAt m owner) es s typ ≡ true
+      room-below : length es < mostEntries → countOf s es < limitOf (subjectAt m owner) s → hasRoom mostEntries (subjectAt m owner) es s typ ≡ true
       unfolding hasRoom
       room-below free l =
           let own = subjectAt m owner in
@@ -173,7 +170,7 @@ module _ (m : Model) (owner : ℕ) (shares : isYes (shareOf m owner) ≡ true) w
               lt-ltb (rowCount w es) (w .limit) (omega (arith, l, row-counts s r, limit-of s r)))
 
       -- where there is room for a sender that has a row, it is below its limit
-      below-room : RowFor (subjectAt m owner) s → hasRoom (subjectAt m owner) es s typ ≡ true → countOf s es < limitOf (subjectAt m owner) s
+      below-room : RowFor (subjectAt m owner) s → hasRoom mostEntries (subjectAt m owner) es s typ ≡ true → countOf s es < limitOf (subjectAt m owner) s
       unfolding hasRoom
       below-room r h =
           let own = subjectAt m owner in
@@ -185,50 +182,50 @@ module _ (m : Model) (owner : ℕ) (shares : isYes (shareOf m owner) ≡ true) w
 
     -- there is room for a sender that has a row exactly when its own entries are below its limit
     room-exactly : rowsKept (subjectAt m owner) es ≡ true → FromRows (subjectAt m owner) es → (s typ : ℕ) → RowFor (subjectAt m owner) s
-        → hasRoom (subjectAt m owner) es s typ ≡ ltb (countOf s es) (limitOf (subjectAt m owner) s)
+        → hasRoom mostEntries (subjectAt m owner) es s typ ≡ ltb (countOf s es) (limitOf (subjectAt m owner) s)
     room-exactly kept rows s typ r = go (ltb (countOf s es) (limitOf (subjectAt m owner) s)) refl
       where
         go : (b : Bool) → ltb (countOf s es) (limitOf (subjectAt m owner) s) ≡ b
-            → hasRoom (subjectAt m owner) es s typ ≡ ltb (countOf s es) (limitOf (subjectAt m owner) s)
+            → hasRoom mostEntries (subjectAt m owner) es s typ ≡ ltb (countOf s es) (limitOf (subjectAt m owner) s)
         go true e = let l = ltb-true _ _ e in room-below s typ (free-below kept rows s r l) l ∙ sym e
-        go false e = is-false (hasRoom (subjectAt m owner) es s typ) (λ h. not-both (lt-ltb _ _ (below-room s typ r h)) e) ∙ sym e
+        go false e = is-false (hasRoom mostEntries (subjectAt m owner) es s typ) (λ h. not-both (lt-ltb _ _ (below-room s typ r h)) e) ∙ sym e
 
 -- ---- replies and refusals
 
 -- what it takes to be placed
-record Places (own : Subject) (x : config-subject.Subject) (s t : ℕ) : Type 0 where
+record PlacedBy (own : Subject) (x : config-subject.Subject) (s t : ℕ) : Type 0 where
   proper : x .mode ≢ endedImproperly
   notClosed : isClosed x s t ≡ false
-  room : hasRoom own (held (x .pool)) s t ≡ true
+  room : hasRoom mostEntries own (held (x .pool)) s t ≡ true
 
 module _ (own : Subject) (x : config-subject.Subject) (s t : ℕ) where
   -- who is placed had all of it
-  places-only : replyOf own x s t ≡ Placed → Places own x s t
+  places-only : replyOf own x s t ≡ Placed → PlacedBy own x s t
   unfolding replyOf isReply
-  places-only h = go (eqb (x .mode) endedImproperly) refl (isClosed x s t) refl (hasRoom own (held (x .pool)) s t) refl (is-reply Placed (replyOf own x s t) h)
+  places-only h = go (eqb (x .mode) endedImproperly) refl (isClosed x s t) refl (hasRoom mostEntries own (held (x .pool)) s t) refl (is-reply Placed (replyOf own x s t) h)
     where
-      go : (a : Bool) → eqb (x .mode) endedImproperly ≡ a → (b : Bool) → isClosed x s t ≡ b → (d : Bool) → hasRoom own (held (x .pool)) s t ≡ d
+      go : (a : Bool) → eqb (x .mode) endedImproperly ≡ a → (b : Bool) → isClosed x s t ≡ b → (d : Bool) → hasRoom mostEntries own (held (x .pool)) s t ≡ d
           → isReply Placed (cond a Improper (cond b Closed (cond (not d) Full Placed))) ≡ true
-          → Places own x s t
+          → PlacedBy own x s t
       go true p b q d r e = not-both e refl
       go false p true q d r e = not-both e refl
       go false p false q true r e = record { proper = eqb-false (x .mode) endedImproperly p; notClosed = q; room = r }
       go false p false q false r e = not-both e refl
 
   -- who has all of it is placed
-  places-where : Places own x s t → replyOf own x s t ≡ Placed
+  places-where : PlacedBy own x s t → replyOf own x s t ≡ Placed
   unfolding replyOf
   places-where h = rw (ne-eqb (x .mode) endedImproperly (h .proper), h .notClosed, h .room)
 
 -- a Reserve by who runs in a send is accepted
 reserve-acts : (m : Model) (c : Config) (s : ℕ) → s < m .n → at c s .mode ≡ running → hereOf m c s .kind ≡ 2 → acted m c (Reserve s) ≡ reserving (m .subjects) (hereOf m c s) c s
-unfolding acted acts effect guarded noSubject notRunning wrongKind noExit noMessage notPlaced improperReceiver noTarget tooEarly sendFirst
+unfolding acted acts effect guarded
 reserve-acts m c s l runs sends =
     rw (lt-leb (m .n) s l, eq-eqb (at c s .mode) running runs, eq-eqb (hereOf m c s .kind) 2 sends)
 
 -- ---- a valid configuration whose entries are from senders
 
-module _ (m : Model) (owner : ℕ) (shares : isYes (shareOf m owner) ≡ true) (c : Config) (k : Held c) (g : configValid m c ≡ true)
+module _ (m : Model) (owner : ℕ) (shares : isYes (shareOf mostEntries m owner) ≡ true) (c : Config) (k : Held c) (g : configValid m c ≡ true)
     (senders : FromSenders m owner (held (at c owner .pool))) where
   -- what the configuration is, as records
   good : GoodConfig m c
@@ -243,7 +240,7 @@ module _ (m : Model) (owner : ℕ) (shares : isYes (shareOf m owner) ≡ true) (
   rows-all = from-rows m owner shares (held (at c owner .pool)) (pool .entries) senders
 
   -- no sender holds more than its limit there
-  holds-within : (s : ℕ) → holds c owner s ≤ limitOf (subjectAt m owner) s
+  holds-within : LimitsKept m owner c
   unfolding holds
   holds-within s = count-within m owner shares (held (at c owner .pool)) (pool .rows) rows-all s
 
@@ -276,7 +273,7 @@ module _ (m : Model) (owner : ℕ) (shares : isYes (shareOf m owner) ≡ true) (
     pools-after = reserve-places m c s k _ _ _ _ _ (reserve-answered m c s accepted)
 
     -- the owner has room for it exactly when it is below its limit
-    room-is : hasRoom (subjectAt m owner) (held (at c owner .pool)) s (typeOf (hereOf m c s)) ≡ ltb (holds c owner s) (limitOf (subjectAt m owner) s)
+    room-is : hasRoom mostEntries (subjectAt m owner) (held (at c owner .pool)) s (typeOf (hereOf m c s)) ≡ ltb (holds c owner s) (limitOf (subjectAt m owner) s)
     unfolding holds
     room-is = room-exactly m owner shares (held (at c owner .pool)) (pool .rows) rows-all s (typeOf (hereOf m c s)) own-row
 
@@ -316,12 +313,12 @@ module _ (m : Model) (owner : ℕ) (shares : isYes (shareOf m owner) ≡ true) (
 
 -- no sender ever holds more than its limit
 pub within-limits : WithinLimits
-within-limits m owner s ks shares =
+within-limits m owner ks shares =
     let v = yes-valid m owner shares in
-    holds-within m owner shares (atLast m ks) (last-held m v ks) (last-valid m v ks) (only-senders m ks owner v (yes-there m owner shares)) s
+    holds-within m owner shares (atLast m ks) (last-held m v ks) (last-valid m v ks) (only-senders m ks owner v (yes-there m owner shares))
 
 -- a sender that asks gets a place exactly when it may have one
 pub gets-exactly : GetsExactly
-gets-exactly m owner s ks shares =
+gets-exactly m owner ks shares =
     let v = yes-valid m owner shares in
-    gets-where m owner shares (atLast m ks) (last-held m v ks) (last-valid m v ks) (only-senders m ks owner v (yes-there m owner shares)) s
+    gets-where m owner shares (atLast m ks) (last-held m v ks) (last-valid m v ks) (only-senders m ks owner v (yes-there m owner shares))

@@ -15,21 +15,22 @@ use Rattle.sets.proofs.Tests.{choose}
 use Rattle.model.specs.Rules.{any}
 use Rattle.model.specs.Sizes.{mostSubjects}
 use Rattle.model.specs.declared.Model.{Model}
-use Rattle.pools.specs.Entries.{reservation, reservedBy, delivered}
-use Rattle.pools.specs.Pools.{held}
-use Rattle.pools.specs.declared.Entry.{Entry}
-use Rattle.pools.proofs.PoolLaws.{held-taken}
-use Rattle.configs.specs.Answers.{refusalOf}
-use Rattle.configs.specs.Subjects.{running, isSend, at, hereOf, put, entered, Held}
-use Rattle.configs.specs.Valid.{typeOf}
-use Rattle.configs.specs.declared.Config.{Config}
-use Rattle.configs.specs.declared.Subject.{Subject}
-use Rattle.configs.proofs.ModelFacts.{subject-there}
-use Rattle.configs.proofs.ValidLaws.{at-put-same, at-put-other, at-each, each-put}
-use Rattle.engine.specs.Commands.{names, subjectOf}
-use Rattle.engine.specs.Effects.{wantedAt, doing, takingAt, taking, runningOn, ticked, ticking}
-use Rattle.engine.specs.Reserve.{rounds, reserving}
-use Rattle.engine.specs.Rules.{wrongKind}
+use Rattle.engine.specs.pools.Sizes.{mostEntries}
+use Rattle.engine.specs.pools.Entries.{reservation, reservedBy, delivered}
+use Rattle.engine.specs.pools.Pools.{held}
+use Rattle.engine.specs.declared.Entry.{Entry}
+use Rattle.engine.proofs.Cited.{held-taken, subject-there, at-put-same, at-put-other, at-each, each-put}
+use Rattle.engine.specs.configs.Answers.{refusalOf}
+use Rattle.engine.specs.configs.Subjects.{running, isSend, at, hereOf, put, entered, Held}
+use Rattle.engine.specs.configs.Valid.{typeOf}
+use Rattle.engine.specs.declared.Config.{Config}
+use Rattle.engine.specs.declared.Subject.{Subject}
+use Rattle.engine.specs.commands.Codes.{names, subjectOf}
+use Rattle.engine.specs.commands.Take.{wantedAt, takingAt, taking}
+use Rattle.engine.specs.commands.Doing.{doing}
+use Rattle.engine.specs.commands.Runs.{runningOn}
+use Rattle.engine.specs.commands.Tick.{ticked, ticking}
+use Rattle.engine.specs.commands.Reserve.{rounds, reserving}
 use Rattle.engine.specs.Steps.{effect, endsAt, stepped}
 use Rattle.engine.specs.declared.Command.{Command}
 use Rattle.engine.specs.declared.Command.the-variants.{Do, Reserve, Deliver, Take, Run, Expire, Cancel, Tick}
@@ -67,31 +68,31 @@ module _ (m : Model) (c : Config) (h : Held c) (r : ℕ) (l : r < mostSubjects) 
       go : (b : Bool) → eqb r s ≡ b → P (held (at (takingAt (At i) (hereOf m c s) end c s e) r .pool))
       go true q =
           let e = eqb-true r s q in
-          rw (e, at-put-same c s _ j, held-taken (at c s .pool) i) (rw e at (p .taken e i))
+          rw (e, at-put-same c s _ j, held-taken mostEntries (at c s .pool) i) (rw e at (p .taken e i))
       go false q = rw (at-put-other c s _ r (eqb-false r s q)) same
   taking-moves s e end Nothing j same p = same
 
   -- after an accepted command
   pub pool-moved : (k : Command) → refusalOf (stepped m c k .answer) ≡ 0 → P (held (at c r .pool))
       → (names k ≡ true → Moved m c (subjectOf k) r P) → P (held (at (effectOf m c k .config) r .pool))
-  unfolding effect doing taking runningOn entered ticking wrongKind
-  pool-moved (Do s e w) fine same p = put-same s _ (in-array (Do s e w) (accepted-tells m c (Do s e w) fine refl)) refl same
+  unfolding effect doing taking runningOn entered ticking
+  pool-moved (Do s e w) fine same p = put-same s _ (in-array (Do s e w) (accepted-tells m c (Do s e w) fine)) refl same
   pool-moved (Reserve s) fine same p = go (bit (rounds (m .subjects) (hereOf m c s) c s .places .placed) r) refl
     where
       told : Accepted m c (Reserve s)
-      told = accepted-tells m c (Reserve s) fine refl
+      told = accepted-tells m c (Reserve s) fine
 
       go : (b : Bool) → bit (rounds (m .subjects) (hereOf m c s) c s .places .placed) r ≡ b
           → P (held (at (reserving (m .subjects) (hereOf m c s) c s .config) r .pool))
       go true e =
           rw (pool-placed (m .subjects) (hereOf m c s) c s h (subject-there m (told .model) s (told .there)) r l e)
-          (p refl .placed (told .there) (not-false _ (told .kind)) (placed-only (m .subjects) (hereOf m c s) c s r l e .receiver))
+          (p refl .placed (told .there) (not-false _ (told .none 2)) (placed-only (m .subjects) (hereOf m c s) c s r l e .receiver))
       go false e = rw (pool-other (m .subjects) (hereOf m c s) c s h (subject-there m (told .model) s (told .there)) r l e) same
   pool-moved (Deliver s) fine same p = rw (held-delivering (m .subjects) (hereOf m c s) (endsAt m c (Deliver s)) c s r l) (p refl .sent (at c s .word))
   pool-moved (Take s e) fine same p =
-      taking-moves s e (endsAt m c (Take s e)) (wantedAt (hereOf m c s) e (at c s)) (in-array (Take s e) (accepted-tells m c (Take s e) fine refl)) same (p refl)
+      taking-moves s e (endsAt m c (Take s e)) (wantedAt (hereOf m c s) e (at c s)) (in-array (Take s e) (accepted-tells m c (Take s e) fine)) same (p refl)
   pool-moved (Run s) fine same p =
-      put-same s _ (in-array (Run s) (accepted-tells m c (Run s) fine refl)) (pool-marking (m .n) (hereOf m c s) (at c s)) same
+      put-same s _ (in-array (Run s) (accepted-tells m c (Run s) fine)) (pool-marking (m .n) (hereOf m c s) (at c s)) same
   pool-moved (Expire s) fine same p = rw (leaving-withdraws (hereOf m c s .timeout) (endsAt m c (Expire s)) c s r l) (p refl .withdrawn)
   pool-moved (Cancel s) fine same p = rw (leaving-withdraws (hereOf m c s .cancel) (endsAt m c (Cancel s)) c s r l) (p refl .withdrawn)
   pool-moved Tick fine same p = rw (at-each (λ _ x. ticked x) c r l, ticked-pool (at c r)) same

@@ -13,19 +13,18 @@ use Rattle.model.specs.Rules.{any}
 use Rattle.model.specs.Sizes.{mostSubjects}
 use Rattle.model.specs.Valid.{valid}
 use Rattle.model.specs.declared.Model.{Model}
-use Rattle.pools.specs.Entries.{reservedBy, delivered}
-use Rattle.pools.specs.Pools.{held}
-use Rattle.pools.specs.declared.Entry.{Entry}
-use Rattle.pools.proofs.PoolLaws.{held-pooled}
-use Rattle.configs.specs.Fresh.{starting, freshConfig}
-use Rattle.configs.specs.Shares.{canSend}
-use Rattle.configs.specs.Subjects.{at, hereOf, nobody, Held}
-use Rattle.configs.specs.Valid.{configValid}
-use Rattle.configs.specs.declared.Config.{Config}
-use Rattle.configs.specs.declared.Subject.{Subject}
-use Rattle.configs.proofs.ModelFacts.{subject-there}
-use Rattle.configs.proofs.ValidLaws.{fresh-held, fresh-valid, fresh-there, fresh-gone, config-good}
-use Rattle.engine.specs.Commands.{subjectOf}
+use Rattle.engine.specs.pools.Sizes.{mostEntries}
+use Rattle.engine.specs.pools.Entries.{reservedBy, delivered}
+use Rattle.engine.specs.pools.Pools.{held}
+use Rattle.engine.specs.declared.Entry.{Entry}
+use Rattle.engine.proofs.Cited.{held-pooled, subject-there, fresh-held, fresh-valid, fresh-there, fresh-gone, config-good}
+use Rattle.engine.specs.configs.Fresh.{starting, freshConfig}
+use Rattle.engine.specs.configs.Shares.{canSend}
+use Rattle.engine.specs.configs.Subjects.{at, hereOf, nobody, Held}
+use Rattle.engine.specs.configs.Valid.{configValid}
+use Rattle.engine.specs.declared.Config.{Config}
+use Rattle.engine.specs.declared.Subject.{Subject}
+use Rattle.engine.specs.commands.Codes.{subjectOf}
 use Rattle.engine.specs.declared.Command.{Command}
 use Rattle.engine.proofs.KeptOne.{fields-here}
 use Rattle.demands.specs.Shares.{SendsTo, atLast}
@@ -39,8 +38,8 @@ unfolding starting nobody
 fresh-empty m r l = go (ltb r (m .n)) refl
   where
     go : (b : Bool) → ltb r (m .n) ≡ b → held (at (freshConfig m) r .pool) ≡ []
-    go true e = ap (λ (x : Subject). held (x .pool)) (fresh-there m r l (ltb-true r (m .n) e)) ∙ held-pooled []
-    go false e = ap (λ (x : Subject). held (x .pool)) (fresh-gone m r l (ltb-false r (m .n) e)) ∙ held-pooled []
+    go true e = ap (λ (x : Subject). held (x .pool)) (fresh-there m r l (ltb-true r (m .n) e)) ∙ held-pooled mostEntries []
+    go false e = ap (λ (x : Subject). held (x .pool)) (fresh-gone m r l (ltb-false r (m .n) e)) ∙ held-pooled mostEntries []
 
 -- delivering leaves the sender
 pub delivered-sender : (s word : ℕ) (e : Entry) → delivered s word e .sender ≡ e .sender
@@ -60,14 +59,14 @@ abbrev pub FromSenders : Model → ℕ → List Entry → Type 0
 FromSenders m owner es = allOf (fromSender m owner) es ≡ true
 
 -- of no entry
-none : (m : Model) (owner : ℕ) → FromSenders m owner []
+from-none : (m : Model) (owner : ℕ) → FromSenders m owner []
 unfolding allOf
-none m owner = refl
+from-none m owner = refl
 
 -- of one
-one : (m : Model) (owner : ℕ) (e : Entry) → fromSender m owner e ≡ true → FromSenders m owner (e ∷ [])
+from-one : (m : Model) (owner : ℕ) (e : Entry) → fromSender m owner e ≡ true → FromSenders m owner (e ∷ [])
 unfolding allOf
-one m owner e h = and-true h refl
+from-one m owner e h = and-true h refl
 
 module _ (m : Model) (v : valid m ≡ true) (owner : ℕ) (c : Config) (h : Held c) (g : configValid m c ≡ true) where
   -- who is in a send state that names the owner sends to it
@@ -81,7 +80,7 @@ module _ (m : Model) (v : valid m ≡ true) (owner : ℕ) (c : Config) (h : Held
       record {
         placed = λ j sends named.
             all-of-append (fromSender m owner) (held (at c owner .pool)) _ p
-            (one m owner _ (can-send m owner s (here-sends s j (eqb-true (hereOf m c s .kind) 2 sends) named)));
+            (from-one m owner _ (can-send m owner s (here-sends s j (eqb-true (hereOf m c s .kind) 2 sends) named)));
         sent = λ word.
             all-of-map (delivered s word) (fromSender m owner) (held (at c owner .pool))
             (all-of-weaker (fromSender m owner) _ (held (at c owner .pool)) (λ e q. ap (canSend m owner) (delivered-sender s word e) ∙ q) p);
@@ -105,4 +104,4 @@ only-senders m ks owner v there =
     (fresh-held m)
     (fresh-valid m v)
     (all-of-each (λ _. true) ks (λ _. refl))
-    (rw (fresh-empty m owner l) (none m owner)))
+    (rw (fresh-empty m owner l) (from-none m owner)))

@@ -15,16 +15,15 @@ use Rattle.model.specs.Rules.{any}
 use Rattle.model.specs.Sizes.{mostSubjects}
 use Rattle.model.specs.Valid.{valid}
 use Rattle.model.specs.declared.Model.{Model}
-use Rattle.configs.specs.Subjects.{endedImproperly, isSend, at, hereOf}
-use Rattle.configs.specs.Valid.{subjectRight, placesRight, configValid}
-use Rattle.configs.specs.declared.Config.{Config}
-use Rattle.configs.proofs.IndexFacts.{state-there}
-use Rattle.configs.proofs.ModelFacts.{n-high, subject-there, state-right}
-use Rattle.engine.specs.Rules.{noSubject, notRunning, wrongKind, noExit, noMessage, placeMissing, someImproper, notPlaced, improperReceiver, noTarget, tooEarly, canDeliver, sendFirst, guarded}
+use Rattle.engine.specs.configs.Subjects.{endedImproperly, isSend, at, hereOf}
+use Rattle.engine.specs.configs.Valid.{subjectRight, placesRight, configValid}
+use Rattle.engine.specs.declared.Config.{Config}
+use Rattle.engine.proofs.Cited.{state-there, n-high, subject-there, state-right}
+use Rattle.engine.specs.commands.Rules.{placeMissing, someImproper, canDeliver, guarded}
 use Rattle.engine.specs.declared.Command.the-variants.{Deliver, Expire}
 use Rattle.engine_promises.proofs.Refusals.{effect-fine, step-is, accepted-tells}
 use Rattle.engine_promises.proofs.Steps.{deliver-or-expire}
-use Rattle.demands.specs.Due.{refusal, CanBeDelivered, TimeIsOver, InSend, DueTogether}
+use Rattle.demands.specs.Due.{stepRefusal, CanBeDelivered, TimeIsOver, InSend, DueTogether}
 
 -- there is a target, and the wait is not too short
 over-exact : (m : Model) (c : Config) (s : ℕ)
@@ -52,7 +51,7 @@ module _ (m : Model) (c : Config) (s : ℕ) (v : valid m ≡ true) (g : configVa
       go false t = not-both e (right r (omega (arith, ltb-false r mostSubjects t, n-high m v)))
 
   -- no place is missing and no receiver has ended improperly
-  can-exact : CanBeDelivered m c s ↔ ((placeMissing (hereOf m c s) c s ≡ false) × (someImproper (hereOf m c s) c ≡ false))
+  can-exact : CanBeDelivered m c s ↔ ((placeMissing (hereOf m c s) (at c s) ≡ false) × (someImproper (hereOf m c s) c ≡ false))
   unfolding placeMissing someImproper
   can-exact = (
     λ d. (
@@ -70,35 +69,35 @@ module _ (m : Model) (c : Config) (s : ℕ) (v : valid m ≡ true) (g : configVa
   )
 
   -- the test of rule 20 says so
-  can-test : CanBeDelivered m c s ↔ (canDeliver (hereOf m c s) c s ≡ true)
+  can-test : CanBeDelivered m c s ↔ (canDeliver (hereOf m c s) (at c s) (someImproper (hereOf m c s) c) ≡ true)
   unfolding canDeliver
   can-test = (
     λ d. let t = can-exact .0 d in rw (eq-eqb (hereOf m c s .kind) 2 (i .sends), t .0, t .1),
-    λ h. let ready = not (placeMissing (hereOf m c s) c s) && not (someImproper (hereOf m c s) c) in
-        let t = and-both (not (placeMissing (hereOf m c s) c s)) (not (someImproper (hereOf m c s) c)) (and-both (isSend (hereOf m c s .kind)) ready h .right) in
+    λ h. let ready = not (placeMissing (hereOf m c s) (at c s)) && not (someImproper (hereOf m c s) c) in
+        let t = and-both (not (placeMissing (hereOf m c s) (at c s))) (not (someImproper (hereOf m c s) c)) (and-both (isSend (hereOf m c s .kind)) ready h .right) in
         can-exact .1 (not-true _ (t .left), not-true _ (t .right)),
   )
 
   -- 16 and 17 are left for Deliver
-  deliver-exact : (refusal m c (Deliver s) ≡ 0) ↔ ((placeMissing (hereOf m c s) c s ≡ false) × (someImproper (hereOf m c s) c ≡ false))
-  unfolding guarded noSubject notRunning wrongKind noExit noMessage notPlaced improperReceiver noTarget tooEarly sendFirst
+  deliver-exact : (stepRefusal m c (Deliver s) ≡ 0) ↔ ((placeMissing (hereOf m c s) (at c s) ≡ false) × (someImproper (hereOf m c s) c ≡ false))
+  unfolding guarded
   deliver-exact = (
-    λ h. let a = accepted-tells m c (Deliver s) h refl in (a .placed, a .proper),
+    λ h. let a = accepted-tells m c (Deliver s) h in (a .none 3, a .none 4),
     λ t. rw (step-is m c (Deliver s), v, g, lt-leb (m .n) s (i .there), i .runs, eq-eqb (hereOf m c s .kind) 2 (i .sends), t .0, t .1) (effect-fine m c (Deliver s)),
   )
 
   -- 18, 19 and 20 are left for Expire
-  expire-exact : (refusal m c (Expire s) ≡ 0) ↔ (TimeIsOver m c s × (canDeliver (hereOf m c s) c s ≡ false))
-  unfolding guarded noSubject notRunning wrongKind noExit noMessage notPlaced improperReceiver noTarget tooEarly sendFirst
+  expire-exact : (stepRefusal m c (Expire s) ≡ 0) ↔ (TimeIsOver m c s × (canDeliver (hereOf m c s) (at c s) (someImproper (hereOf m c s) c) ≡ false))
+  unfolding guarded
   expire-exact = (
-    λ h. let a = accepted-tells m c (Expire s) h refl in (over-exact m c s .1 (a .target, a .late), a .unsent),
+    λ h. let a = accepted-tells m c (Expire s) h in (over-exact m c s .1 (a .none 2, a .none 3), a .none 4),
     λ t. let o = over-exact m c s .0 (t .0) in
         rw (step-is m c (Expire s), v, g, lt-leb (m .n) s (i .there), i .runs, o .0, o .1, t .1) (effect-fine m c (Expire s)),
   )
 
   -- Deliver goes first
-  expire-waits : TimeIsOver m c s → canDeliver (hereOf m c s) c s ≡ true → refusal m c (Expire s) ≡ 20
-  unfolding guarded noSubject notRunning wrongKind noExit noMessage notPlaced improperReceiver noTarget tooEarly sendFirst
+  expire-waits : TimeIsOver m c s → canDeliver (hereOf m c s) (at c s) (someImproper (hereOf m c s) c) ≡ true → stepRefusal m c (Expire s) ≡ 20
+  unfolding guarded
   expire-waits o d =
       let t = over-exact m c s .0 o in
       rw (step-is m c (Expire s), v, g, lt-leb (m .n) s (i .there), i .runs, t .0, t .1, d)

@@ -12,20 +12,20 @@ use Rattle.model.specs.Valid as models
 use Rattle.model.specs.declared.Model.{Model}
 use Rattle.model_promises.specs.Samples.{modelP}
 use Rattle.model_promises.proofs.Worked.{p-held, p-valid}
-use Rattle.pools.specs.declared.Pool.{Pool}
-use Rattle.configs.specs.Answers.{refusalOf}
-use Rattle.configs.specs.Subjects.{at, hereOf, Held}
-use Rattle.configs.specs.Valid.{configValid}
-use Rattle.configs.specs.declared.Config.{Config}
-use Rattle.configs.specs.declared.Stepped.{Stepped}
-use Rattle.engine.specs.Commands.{names, subjectOf}
+use Rattle.engine.specs.declared.Pool.{Pool}
+use Rattle.engine.specs.configs.Answers.{refusalOf}
+use Rattle.engine.specs.configs.Subjects.{at, hereOf, Held}
+use Rattle.engine.specs.configs.Valid.{configValid}
+use Rattle.engine.specs.declared.Config.{Config}
+use Rattle.engine.specs.declared.Stepped.{Stepped}
+use Rattle.engine.specs.commands.Codes.{names, subjectOf}
 use Rattle.engine.specs.Steps.{stepped}
 use Rattle.engine.specs.declared.Command.{Command}
 use Rattle.engine.specs.declared.Command.the-variants.{Do, Reserve, Deliver, Take}
 use Rattle.engine_promises.specs.Runs.{runFrom}
 use Rattle.engine_promises.proofs.Always.{step-keeps, step-held}
 use Rattle.engine_promises.proofs.Steps.{reserve-answers}
-use Rattle.demands.specs.Due.{refusal}
+use Rattle.demands.specs.Due.{stepRefusal}
 use Rattle.demands.specs.Engines.{Engine, Meets, ShutOut, RefusesAll, Constant, Untouched, runBy, PlacesAllAtOnce, FakesLaterOnes, InventsMissing, WrongEnginesShutOut}
 use Rattle.demands.specs.Met.{sent}
 use Rattle.demands.specs.Orchard.{orchard}
@@ -37,12 +37,12 @@ use Rattle.demands.proofs.SampleModels.{orchard-held, orchard-valid}
 -- ---- what some commands do
 
 -- a fresh model P accepts Do 0 0 35
-p-does : refusal modelP (atLast modelP []) (Do 0 0 35) ≡ 0
+p-does : stepRefusal modelP (atLast modelP []) (Do 0 0 35) ≡ 0
 unfolding computing
 p-does = refusal-next modelP p-valid [] (Do 0 0 35) refl
 
 -- and refuses Do 2 0 35: that subject is not there
-p-refuses : refusal modelP (atLast modelP []) (Do 2 0 35) ≡ 11
+p-refuses : stepRefusal modelP (atLast modelP []) (Do 2 0 35) ≡ 11
 unfolding computing
 p-refuses = refusal-next modelP p-valid [] (Do 2 0 35) refl
 
@@ -57,7 +57,7 @@ unfolding computing
 p-state-after = at-next modelP p-valid (λ x. at (x .config) 0 .state ≡ 1) [] (Do 0 0 35) refl
 
 -- the valve has the first probe's reading, and the probe may reserve again
-again-accepted : refusal orchard (atLast orchard sent) (Reserve 0) ≡ 0
+again-accepted : stepRefusal orchard (atLast orchard sent) (Reserve 0) ≡ 0
 unfolding computing
 again-accepted = refusal-next orchard orchard-valid sent (Reserve 0) refl
 

@@ -12,12 +12,12 @@ use Rattle.model.specs.Rules.{any}
 use Rattle.model.specs.Valid.{subjectAt, rowAt, valid}
 use Rattle.model.specs.declared.Model.{Model}
 use Rattle.model.specs.declared.Subject.{Subject}
-use Rattle.pools.specs.Sizes.{mostEntries}
-use Rattle.configs.specs.Answers.{isYes}
-use Rattle.configs.specs.Shares.{rowNames, rowsName, noneTwice, hasRow, sendsTo, canSend, sendersHaveRows, limitsFit, sharedOut, shareOf}
-use Rattle.configs.specs.Subjects.{isSend, stateOf}
-use Rattle.configs.specs.declared.Share.the-variants.{Yes, No, NotAsked}
-use Rattle.configs.proofs.ValidLaws.{if-true, true-if}
+use Rattle.engine.specs.pools.Sizes.{mostEntries}
+use Rattle.engine.specs.configs.Answers.{isYes}
+use Rattle.engine.specs.configs.Shares.{rowNames, rowsName, noneTwice, hasRow, sendsTo, canSend, sendersHaveRows, limitsFit, sharedOut, shareOf}
+use Rattle.engine.specs.configs.Subjects.{isSend, stateOf}
+use Rattle.engine.specs.declared.Share.the-variants.{Yes, No, NotAsked}
+use Rattle.engine.proofs.Cited.{if-true, true-if}
 use Rattle.demands.specs.Shares.{SendsTo, RowFor, SharedOut, YesSays, limitOf, LimitIsTheRows}
 use Rattle.demands.proofs.Counting.{sum-one, two-names}
 
@@ -60,12 +60,12 @@ module _ (m : Model) (owner s : ℕ) where
 
 module _ (m : Model) (owner : ℕ) where
   -- what the test of the rows says
-  shared-read : sharedOut m owner ≡ true → SharedOut m owner
+  shared-read : sharedOut mostEntries m owner ≡ true → SharedOut m owner
   unfolding sharedOut rowsName noneTwice limitsFit sendersHaveRows
   shared-read h =
       let own = subjectAt m owner in
-      let a = and-both ((rowsName own && noneTwice own) && limitsFit own) (sendersHaveRows m owner) h in
-      let b = and-both (rowsName own && noneTwice own) (limitsFit own) (a .left) in
+      let a = and-both ((rowsName own && noneTwice own) && limitsFit mostEntries own) (sendersHaveRows m owner) h in
+      let b = and-both (rowsName own && noneTwice own) (limitsFit mostEntries own) (a .left) in
       let d = and-both (rowsName own) (noneTwice own) (b .left) in
       let names : (k : ℕ) → k < own .rows → rowNames (rowAt own k) ≡ true = all-each (λ k. rowNames (rowAt own k)) (own .rows) (d .left) in
       record {
@@ -82,7 +82,7 @@ module _ (m : Model) (owner : ℕ) where
       }
 
   -- rows that are so pass it
-  shared-by : SharedOut m owner → sharedOut m owner ≡ true
+  shared-by : SharedOut m owner → sharedOut mostEntries m owner ≡ true
   unfolding sharedOut rowsName noneTwice limitsFit sendersHaveRows
   shared-by h =
       let own = subjectAt m owner in
@@ -101,11 +101,11 @@ module _ (m : Model) (owner : ℕ) where
       (λ s l. true-if (canSend m owner s) (hasRow own s) (λ e. has-row own s (h .rowForEach s l (sends-of m owner s e)))))
 
   -- yes is answered only for a pool that is shared out
-  yes-read : isYes (shareOf m owner) ≡ true → (valid m ≡ true) × (owner < m .n) × SharedOut m owner
+  yes-read : isYes (shareOf mostEntries m owner) ≡ true → (valid m ≡ true) × (owner < m .n) × SharedOut m owner
   unfolding shareOf
-  yes-read h = go (valid m) refl (ltb owner (m .n)) refl (sharedOut m owner) refl h
+  yes-read h = go (valid m) refl (ltb owner (m .n)) refl (sharedOut mostEntries m owner) refl h
     where
-      go : (a : Bool) → valid m ≡ a → (b : Bool) → ltb owner (m .n) ≡ b → (d : Bool) → sharedOut m owner ≡ d
+      go : (a : Bool) → valid m ≡ a → (b : Bool) → ltb owner (m .n) ≡ b → (d : Bool) → sharedOut mostEntries m owner ≡ d
           → isYes (cond a (cond b (cond d Yes No) (NotAsked 11)) (NotAsked 8)) ≡ true
           → (valid m ≡ true) × (owner < m .n) × SharedOut m owner
       go true v true l true k e = (v, ltb-true owner (m .n) l, shared-read k)
@@ -114,7 +114,7 @@ module _ (m : Model) (owner : ℕ) where
       go false v b l d k e = not-both e refl
 
   -- and for each of them
-  yes-by : (valid m ≡ true) × (owner < m .n) × SharedOut m owner → isYes (shareOf m owner) ≡ true
+  yes-by : (valid m ≡ true) × (owner < m .n) × SharedOut m owner → isYes (shareOf mostEntries m owner) ≡ true
   unfolding shareOf
   yes-by h = rw (h .0, lt-ltb owner (m .n) (h .1), shared-by (h .2))
 
@@ -122,7 +122,7 @@ module _ (m : Model) (owner : ℕ) where
 pub yes-says : YesSays
 yes-says m owner = (yes-read m owner, yes-by m owner)
 
-module _ (m : Model) (owner : ℕ) (answer : isYes (shareOf m owner) ≡ true) where
+module _ (m : Model) (owner : ℕ) (answer : isYes (shareOf mostEntries m owner) ≡ true) where
   -- the model of a pool that is shared out is valid
   pub yes-valid : valid m ≡ true
   yes-valid = yes-says m owner .0 answer .0

@@ -10,13 +10,13 @@ use lib.ListN.{length}
 use Rattle.blocks.specs.Verdicts as verdicts
 use Rattle.model.specs.Loading.{emptyModel, loaded}
 use Rattle.model.specs.declared.Model.{Model}
-use Rattle.configs.specs.Answers.{refusalOf, isYes, shareRefusal, refused}
-use Rattle.configs.specs.Fresh.{freshOf}
-use Rattle.configs.specs.Shares.{shareOf}
-use Rattle.configs.specs.Subjects.{allZero}
-use Rattle.configs.specs.Valid.{faultOf}
-use Rattle.configs.specs.declared.Config.{Config}
-use Rattle.configs.specs.declared.Stepped.{Stepped}
+use Rattle.engine.specs.pools.Sizes.{mostEntries}
+use Rattle.engine.specs.configs.Answers.{refusalOf, isYes, shareRefusal, refused}
+use Rattle.engine.specs.configs.Fresh.{freshOf}
+use Rattle.engine.specs.configs.Shares.{shareOf}
+use Rattle.engine.specs.configs.Subjects.{zeroConfig}
+use Rattle.engine.specs.declared.Config.{Config}
+use Rattle.engine.specs.declared.Stepped.{Stepped}
 use Rattle.engine.specs.Steps.{stepped, codedStep}
 use Rattle.engine.specs.Tapes.{ran, written}
 use Rattle.engine.specs.declared.Command.{Command}
@@ -34,14 +34,13 @@ pub record Answers (numbers : List ℕ) (back : Config) (answered : Stepped) : T
 pub record EveryCallAnswers : Type 0 where
   pub load : (file : List ℕ) → isOneOf (0 ∷ 1 ∷ 2 ∷ 3 ∷ 4 ∷ 5 ∷ []) (verdicts.refusalOf (loaded file .verdict)) ≡ true
   pub loadRefused : (file : List ℕ) → verdicts.refusalOf (loaded file .verdict) ≢ 0 → loaded file .model ≡ emptyModel
-  pub fresh : (m : Model) → Answers (8 ∷ []) allZero (freshOf m)
-  pub fault : (m : Model) (c : Config) → isOneOf (0 ∷ 8 ∷ 10 ∷ []) (faultOf m c) ≡ true
+  pub fresh : (m : Model) → Answers (8 ∷ []) zeroConfig (freshOf m)
   pub step : (m : Model) (c : Config) (k : Command)
       → Answers (8 ∷ 10 ∷ 11 ∷ 12 ∷ 13 ∷ 14 ∷ 15 ∷ 16 ∷ 17 ∷ 18 ∷ 19 ∷ 20 ∷ []) c (stepped m c k)
   pub stepCoded : (m : Model) (c : Config) (b : List ℕ)
       → Answers (8 ∷ 9 ∷ 10 ∷ 11 ∷ 12 ∷ 13 ∷ 14 ∷ 15 ∷ 16 ∷ 17 ∷ 18 ∷ 19 ∷ 20 ∷ []) c (codedStep m c b)
-  pub shared : (m : Model) (owner : ℕ) → isOneOf (0 ∷ 8 ∷ 11 ∷ []) (shareRefusal (shareOf m owner)) ≡ true
-  pub sharedRefused : (m : Model) (owner : ℕ) → shareRefusal (shareOf m owner) ≢ 0 → isYes (shareOf m owner) ≡ false
-  pub run : (m : Model) (c : Config) (tape : List ℕ) (room : ℕ) → Answers (6 ∷ []) c (ran m c tape room)
+  pub shared : (m : Model) (owner : ℕ) → isOneOf (0 ∷ 8 ∷ 11 ∷ []) (shareRefusal (shareOf mostEntries m owner)) ≡ true
+  pub sharedRefused : (m : Model) (owner : ℕ) → shareRefusal (shareOf mostEntries m owner) ≢ 0 → isYes (shareOf mostEntries m owner) ≡ false
+  pub run : (m : Model) (c : Config) (tape : List ℕ) (room : ℕ) → Answers (8 ∷ 10 ∷ 6 ∷ []) c (ran m c tape room)
   pub runRefused : (m : Model) (c : Config) (tape lines : List ℕ)
       → refusalOf (ran m c tape (length lines) .answer) ≢ 0 → written m c tape lines ≡ lines

@@ -7,17 +7,17 @@ use Rattle.sets.specs.Masks.{bit}
 use Rattle.model.specs.Rules.{any}
 use Rattle.model.specs.Valid.{valid}
 use Rattle.model.specs.declared.Model.{Model}
-use Rattle.configs.specs.Answers.{refusalOf}
-use Rattle.configs.specs.Subjects.{running, endedImproperly, at, hereOf}
-use Rattle.configs.specs.Valid.{configValid}
-use Rattle.configs.specs.declared.Config.{Config}
+use Rattle.engine.specs.configs.Answers.{refusalOf}
+use Rattle.engine.specs.configs.Subjects.{running, endedImproperly, at, hereOf}
+use Rattle.engine.specs.configs.Valid.{configValid}
+use Rattle.engine.specs.declared.Config.{Config}
 use Rattle.engine.specs.Steps.{stepped}
 use Rattle.engine.specs.declared.Command.{Command}
 use Rattle.engine.specs.declared.Command.the-variants.{Deliver, Expire}
 
 -- the number of the refusal, 0 for accepted
-abbrev pub refusal : Model → Config → Command → ℕ
-refusal m c k = refusalOf (stepped m c k .answer)
+abbrev pub stepRefusal : Model → Config → Command → ℕ
+stepRefusal m c k = refusalOf (stepped m c k .answer)
 
 -- every receiver has a place of s, and none has ended improperly
 pub record CanBeDelivered (m : Model) (c : Config) (s : ℕ) : Type 0 where
@@ -38,10 +38,10 @@ pub record InSend (m : Model) (c : Config) (s : ℕ) : Type 0 where
 -- Deliver is accepted exactly when the send can be delivered; Expire exactly when the time is over and it cannot; where
 -- both are due Deliver is accepted and Expire refused with 20; never both are accepted
 pub record OneOfTwo (m : Model) (c : Config) (s : ℕ) : Type 0 where
-  pub delivers : (refusal m c (Deliver s) ≡ 0) ↔ CanBeDelivered m c s
-  pub expires : (refusal m c (Expire s) ≡ 0) ↔ (TimeIsOver m c s × (¬ CanBeDelivered m c s))
-  pub bothDue : TimeIsOver m c s → CanBeDelivered m c s → (refusal m c (Deliver s) ≡ 0) × (refusal m c (Expire s) ≡ 20)
-  pub neverBoth : refusal m c (Deliver s) ≡ 0 → refusal m c (Expire s) ≢ 0
+  pub delivers : (stepRefusal m c (Deliver s) ≡ 0) ↔ CanBeDelivered m c s
+  pub expires : (stepRefusal m c (Expire s) ≡ 0) ↔ (TimeIsOver m c s × (¬ CanBeDelivered m c s))
+  pub bothDue : TimeIsOver m c s → CanBeDelivered m c s → (stepRefusal m c (Deliver s) ≡ 0) × (stepRefusal m c (Expire s) ≡ 20)
+  pub neverBoth : stepRefusal m c (Deliver s) ≡ 0 → stepRefusal m c (Expire s) ≢ 0
 
 abbrev pub DueTogether : Type 0
 DueTogether = (m : Model) (c : Config) (s : ℕ) → valid m ≡ true → configValid m c ≡ true → InSend m c s → OneOfTwo m c s

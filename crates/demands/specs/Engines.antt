@@ -10,12 +10,12 @@ use Rattle.sets.specs.Lists.{allOf}
 use Rattle.sets.specs.Masks.{bit}
 use Rattle.model.specs.Valid as models
 use Rattle.model.specs.declared.Model.{Model}
-use Rattle.configs.specs.Answers.{refusalOf}
-use Rattle.configs.specs.Subjects.{at, hereOf, Held}
-use Rattle.configs.specs.declared.Answer.the-variants.{Reserved}
-use Rattle.configs.specs.declared.Config.{Config}
-use Rattle.configs.specs.declared.Stepped.{Stepped}
-use Rattle.engine.specs.Commands.{names, subjectOf}
+use Rattle.engine.specs.configs.Answers.{refusalOf}
+use Rattle.engine.specs.configs.Subjects.{at, hereOf, Held}
+use Rattle.engine.specs.declared.Answer.the-variants.{Reserved}
+use Rattle.engine.specs.declared.Config.{Config}
+use Rattle.engine.specs.declared.Stepped.{Stepped}
+use Rattle.engine.specs.commands.Codes.{names, subjectOf}
 use Rattle.engine.specs.Steps.{stepped}
 use Rattle.engine.specs.declared.Command.{Command}
 use Rattle.engine.specs.declared.Command.the-variants.{Reserve}

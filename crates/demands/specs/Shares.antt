@@ -1,6 +1,7 @@
 -- Demand 3: a pool that is shared out. From a fresh start, after any commands, no sender holds more than its limit, and a
 -- sender that reserves gets a place exactly when the owner has not ended improperly, the queue is open and its own entries
--- are below its limit. All of it is said of the definitions that the contracts cite: `shareOf`, `freshOf`, `stepped`.
+-- are below its limit. All of it is said of the definitions that the contracts cite: `shareOf`, `freshOf`, `stepped`; and on
+-- tapes, after any calls from a fresh start, of `codedStep`, `ran` and `after`.
 use mathlib.Core.Path.{_≡_}
 use mathlib.Core.Logic.{_↔_, _≢_}
 use mathlib.Core.Bool.{Bool, true, false, _||_, not, cond}
@@ -15,22 +16,24 @@ use Rattle.model.specs.Rules.{any}
 use Rattle.model.specs.Valid.{subjectAt, rowAt, valid}
 use Rattle.model.specs.declared.Model.{Model}
 use Rattle.model.specs.declared.Subject.{Subject}
-use Rattle.pools.specs.Entries.{reservation}
-use Rattle.pools.specs.Pools.{held}
-use Rattle.pools.specs.declared.Entry.{Entry}
-use Rattle.configs.specs.Answers.{valuesOf, isYes}
-use Rattle.configs.specs.Fresh.{freshOf}
-use Rattle.configs.specs.Shares.{shareOf}
-use Rattle.configs.specs.Subjects.{running, endedImproperly, at, stateOf, hereOf}
-use Rattle.configs.specs.Valid.{typeOf}
-use Rattle.configs.specs.declared.Answer.{Answer}
-use Rattle.configs.specs.declared.Config.{Config}
-use Rattle.engine.specs.Commands.{names, subjectOf}
-use Rattle.engine.specs.Reserve.{isClosed}
+use Rattle.engine.specs.pools.Sizes.{mostEntries}
+use Rattle.engine.specs.pools.Entries.{reservation}
+use Rattle.engine.specs.pools.Pools.{held}
+use Rattle.engine.specs.declared.Entry.{Entry}
+use Rattle.engine.specs.configs.Answers.{valuesOf, isYes}
+use Rattle.engine.specs.configs.Fresh.{freshOf}
+use Rattle.engine.specs.configs.Shares.{shareOf}
+use Rattle.engine.specs.configs.Subjects.{running, endedImproperly, at, stateOf, hereOf}
+use Rattle.engine.specs.configs.Valid.{typeOf}
+use Rattle.engine.specs.declared.Answer.{Answer}
+use Rattle.engine.specs.declared.Config.{Config}
+use Rattle.engine.specs.commands.Codes.{names, subjectOf}
+use Rattle.engine.specs.commands.Reserve.{isClosed}
 use Rattle.engine.specs.Steps.{stepped}
+use Rattle.engine.specs.Tapes.{after}
 use Rattle.engine.specs.declared.Command.{Command}
 use Rattle.engine.specs.declared.Command.the-variants.{Reserve}
-use Rattle.engine_promises.specs.Runs.{runFrom}
+use Rattle.engine_promises.specs.Runs.{runFrom, commandsOf, Call, afterCalls}
 
 -- ---- the yes/no
 
@@ -59,7 +62,7 @@ pub record SharedOut (m : Model) (owner : ℕ) : Type 0 where
 
 -- the answer is yes exactly for the pools of a valid model that are shared out so
 abbrev pub YesSays : Type 0
-YesSays = (m : Model) (owner : ℕ) → (isYes (shareOf m owner) ≡ true) ↔ ((valid m ≡ true) × (owner < m .n) × SharedOut m owner)
+YesSays = (m : Model) (owner : ℕ) → (isYes (shareOf mostEntries m owner) ≡ true) ↔ ((valid m ≡ true) × (owner < m .n) × SharedOut m owner)
 
 -- ---- what a sender holds, and its limit
 
@@ -73,7 +76,7 @@ limitOf own s = sumBelow (λ k. cond (eqb (rowAt own k .sender) s) (rowAt own k 
 
 -- in a pool that is shared out it is the limit of that one row
 abbrev pub LimitIsTheRows : Type 0
-LimitIsTheRows = (m : Model) (owner k : ℕ) → isYes (shareOf m owner) ≡ true → k < subjectAt m owner .rows
+LimitIsTheRows = (m : Model) (owner k : ℕ) → isYes (shareOf mostEntries m owner) ≡ true → k < subjectAt m owner .rows
     → limitOf (subjectAt m owner) (rowAt (subjectAt m owner) k .sender) ≡ rowAt (subjectAt m owner) k .limit
 
 -- ---- a. no sender holds more than its limit
@@ -82,9 +85,22 @@ LimitIsTheRows = (m : Model) (owner k : ℕ) → isYes (shareOf m owner) ≡ tru
 abbrev pub atLast : Model → List Command → Config
 atLast m ks = runFrom m (freshOf m .config) ks
 
+-- after any calls from a fresh start, and then the first i commands of a tape
+abbrev pub onTape : Model → List Call → List ℕ → ℕ → Config
+onTape m calls tape i = after m (afterCalls m (freshOf m .config) calls) tape i
+
+-- no sender holds more than its limit in c
+abbrev pub LimitsKept : Model → ℕ → Config → Type 0
+LimitsKept m owner c = (s : ℕ) → holds c owner s ≤ limitOf (subjectAt m owner) s
+
+-- after any commands
 abbrev pub WithinLimits : Type 0
-WithinLimits = (m : Model) (owner s : ℕ) (ks : List Command) → isYes (shareOf m owner) ≡ true
-    → holds (atLast m ks) owner s ≤ limitOf (subjectAt m owner) s
+WithinLimits = (m : Model) (owner : ℕ) (ks : List Command) → isYes (shareOf mostEntries m owner) ≡ true → LimitsKept m owner (atLast m ks)
+
+-- after any calls, at any place of a tape
+abbrev pub WithinLimitsOnTapes : Type 0
+WithinLimitsOnTapes = (m : Model) (owner : ℕ) (calls : List Call) (tape : List ℕ) (i : ℕ) → isYes (shareOf mostEntries m owner) ≡ true
+    → LimitsKept m owner (onTape m calls tape i)
 
 -- ---- b. a sender that reserves gets a place exactly when
 
@@ -116,10 +132,19 @@ pub record GetsNone (m : Model) (c : Config) (owner s : ℕ) : Type 0 where
   pub notPlaced : bit (placedIn (stepped m c (Reserve s) .answer)) owner ≡ false
   pub stays : at (stepped m c (Reserve s) .config) owner .pool ≡ at c owner .pool
 
+-- in c a sender that asks gets a place exactly when it may have one, and else none
+abbrev pub GetsWhere : Model → ℕ → Config → Type 0
+GetsWhere m owner c = (s : ℕ) → Asks m c owner s
+    → (Gets m c owner s ↔ MayHave m c owner s) × (¬ MayHave m c owner s → GetsNone m c owner s)
+
+-- after any commands
 abbrev pub GetsExactly : Type 0
-GetsExactly = (m : Model) (owner s : ℕ) (ks : List Command) → isYes (shareOf m owner) ≡ true → Asks m (atLast m ks) owner s
-    → (Gets m (atLast m ks) owner s ↔ MayHave m (atLast m ks) owner s)
-    × (¬ MayHave m (atLast m ks) owner s → GetsNone m (atLast m ks) owner s)
+GetsExactly = (m : Model) (owner : ℕ) (ks : List Command) → isYes (shareOf mostEntries m owner) ≡ true → GetsWhere m owner (atLast m ks)
+
+-- after any calls, at any place of a tape
+abbrev pub GetsExactlyOnTapes : Type 0
+GetsExactlyOnTapes = (m : Model) (owner : ℕ) (calls : List Call) (tape : List ℕ) (i : ℕ) → isYes (shareOf mostEntries m owner) ≡ true
+    → GetsWhere m owner (onTape m calls tape i)
 
 -- ---- as the growers say it: a chattering probe, however many commands it sends, never takes a place from a healthy one
 
@@ -127,11 +152,18 @@ GetsExactly = (m : Model) (owner s : ℕ) (ks : List Command) → isYes (shareOf
 abbrev pub ofProbe : ℕ → Command → Bool
 ofProbe probe k = not (names k) || eqb (subjectOf k) probe
 
--- a healthy sender that asks for a place after any commands asks for it still after all the chatter, and gets it then
--- exactly when it would have got it before
+-- a healthy sender that asks for a place in c asks for it still in d, and gets it there exactly when it would have got it in c
+abbrev pub AsksAndGets : Model → ℕ → ℕ → Config → Config → Type 0
+AsksAndGets m owner healthy c d = Asks m c owner healthy → Asks m d owner healthy × (Gets m d owner healthy ↔ Gets m c owner healthy)
+
+-- after any commands, and then all the chatter
 abbrev pub NeverCrowdedOut : Type 0
-NeverCrowdedOut = (m : Model) (owner healthy probe : ℕ) (ks chatter : List Command) → isYes (shareOf m owner) ≡ true
+NeverCrowdedOut = (m : Model) (owner healthy probe : ℕ) (ks chatter : List Command) → isYes (shareOf mostEntries m owner) ≡ true
     → probe ≢ healthy → probe ≢ owner → allOf (ofProbe probe) chatter ≡ true
-    → Asks m (atLast m ks) owner healthy
-    → Asks m (runFrom m (atLast m ks) chatter) owner healthy
-    × (Gets m (runFrom m (atLast m ks) chatter) owner healthy ↔ Gets m (atLast m ks) owner healthy)
+    → AsksAndGets m owner healthy (atLast m ks) (runFrom m (atLast m ks) chatter)
+
+-- after any calls and the first i commands of a tape, and then the first j of a tape of chatter
+abbrev pub NeverCrowdedOutOnTapes : Type 0
+NeverCrowdedOutOnTapes = (m : Model) (owner healthy probe : ℕ) (calls : List Call) (tape : List ℕ) (i : ℕ) (chatter : List ℕ) (j : ℕ)
+    → isYes (shareOf mostEntries m owner) ≡ true → probe ≢ healthy → probe ≢ owner → allOf (ofProbe probe) (commandsOf chatter j) ≡ true
+    → AsksAndGets m owner healthy (onTape m calls tape i) (after m (onTape m calls tape i) chatter j)

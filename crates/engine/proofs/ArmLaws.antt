@@ -1,16 +1,11 @@
 -- An arm for several commands, with `|` or `_`, is told their tags: what it gives is right where it is so at each tag.
-use mathlib.Core.Path.{_≡_, refl, sym, ap, _∙_}
+use mathlib.Core.Path.{_≡_, sym, ap, _∙_}
 use mathlib.Core.Logic.{inl, inr}
 use mathlib.Core.List.{List, [], _∷_, map}
 use Prim.Native.Nat.{ℕ}
 use denote.Enum.Declared.{tagOf}
 use lib.ListN.{getD, drop}
 use types.Run.{OneOf}
-use Rattle.model.specs.declared.State.{State}
-use Rattle.model.specs.declared.Subject as model-subject
-use Rattle.pools.specs.Pools.{withdrawnFrom}
-use Rattle.configs.specs.declared.Subject.{Subject}
-use Rattle.engine.specs.InPlace.{touchedAs}
 use Rattle.engine.specs.declared.Command.{Command}
 use Rattle.engine.specs.declared.Command.the-variants.{Do, Reserve, Deliver, Take, Run, Expire, Cancel, Tick}
 use Rattle.engine.proofs.Command.{the-type}
@@ -43,15 +38,3 @@ pub arm : {A : Type 0} {v : A} (f : Command → A) (k : Command) (tags : List �
     → _≡_ {A = ℕ → ℕ → ℕ → List A} (λ _ _ _. map (λ _. v) tags) (λ s e w. map (λ t. f (ofTag s e w t)) tags)
     → v ≡ f k
 arm {A} {v} f k tags o h = by-tag (λ c. v ≡ f c) k (λ s e w. one-tag (λ t. f (ofTag s e w t)) v tags (λ i. h i s e w) (tagOf the-type k) o)
-
--- ---- the pool of a subject that a command reaches
-module _ (owner : model-subject.Subject) (here : State) (s word : ℕ) (x : Subject) (k : Command) where
-  -- Expire and Cancel withdraw
-  pub leaving-pool : OneOf (5 ∷ 6 ∷ []) (tagOf the-type k) → withdrawnFrom s (x .pool) ≡ touchedAs owner here s word x k .pool
-  unfolding touchedAs
-  leaving-pool o = arm (λ c. touchedAs owner here s word x c .pool) k (5 ∷ 6 ∷ []) o refl
-
-  -- Do, Take, Run and Tick leave it
-  pub staying-pool : OneOf (0 ∷ 3 ∷ 4 ∷ 7 ∷ []) (tagOf the-type k) → x .pool ≡ touchedAs owner here s word x k .pool
-  unfolding touchedAs
-  staying-pool o = arm (λ c. touchedAs owner here s word x c .pool) k (0 ∷ 3 ∷ 4 ∷ 7 ∷ []) o refl

@@ -19,56 +19,59 @@ use Rattle.model.specs.Valid.{noSubject, subjectAt, exitAt, valid}
 use Rattle.model.specs.declared.Model.{Model}
 use Rattle.model.specs.declared.State.{State}
 use Rattle.model.specs.declared.Subject as model-subject
-use Rattle.pools.specs.Entries.{reservedBy, delivered}
-use Rattle.pools.specs.Pools.{held, pooled, reservations, deliveredIn, withdrawnFrom, Well}
-use Rattle.pools.specs.Rows.{rowsKept}
-use Rattle.pools.specs.Valid.{entryValid}
-use Rattle.pools.specs.declared.Entry.{Entry}
-use Rattle.pools.specs.declared.Pool.{Pool}
-use Rattle.pools.proofs.EntryLaws.{delivered-others, delivered-none, delivered-all-valid, delivered-rows, delivered-places, delivered-empty, withdrawn-others, withdrawn-none, withdrawn-all-valid, withdrawn-rows, withdrawn-places, withdrawn-empty}
-use Rattle.pools.proofs.PoolLaws.{held-delivered, held-withdrawn, well-delivered, well-withdrawn}
-use Rattle.configs.specs.Subjects.{asleep, running, endedProperly, isEnd, at, stateOf, hereOf, eachSubject, withPool, entered, nobody, Held}
-use Rattle.configs.specs.Valid.{marksRight, fieldsRight, typeOf}
-use Rattle.configs.specs.declared.Config.{Config}
-use Rattle.configs.specs.declared.Subject.{Subject}
-use Rattle.configs.proofs.Good.{GoodSubject, GoodConfig}
-use Rattle.configs.proofs.ModelFacts.{RightState, subject-there, initial-there, initial-runs}
-use Rattle.configs.proofs.ValidLaws.{HeldSubject, held-at, fields-read, fields-by}
-use Rattle.engine.specs.Effects.{enters, started, deliveredAs, deliveredTo, delivering, withdrawing, leaving}
+use Rattle.engine.specs.pools.Sizes.{mostEntries}
+use Rattle.engine.specs.pools.Entries.{reservedBy, delivered}
+use Rattle.engine.specs.pools.Pools.{held, pooled, reservations, deliveredIn, withdrawnFrom, Well}
+use Rattle.engine.specs.pools.Rows.{rowsKept}
+use Rattle.engine.specs.pools.Valid.{entryValid}
+use Rattle.engine.specs.declared.Entry.{Entry}
+use Rattle.engine.specs.declared.Pool.{Pool}
+use Rattle.engine.proofs.pools.EntryLaws.{delivered-others, delivered-none, delivered-all-valid, delivered-rows, delivered-places, delivered-empty, withdrawn-others, withdrawn-none, withdrawn-all-valid, withdrawn-rows, withdrawn-places, withdrawn-empty}
+use Rattle.engine.proofs.pools.PoolLaws.{held-delivered, held-withdrawn, well-delivered, well-withdrawn}
+use Rattle.engine.specs.configs.Subjects.{asleep, running, endedProperly, isEnd, at, stateOf, hereOf, eachSubject, withPool, entered, nobody, Held}
+use Rattle.engine.specs.configs.Valid.{marksRight, fieldsRight, typeOf}
+use Rattle.engine.specs.declared.Config.{Config}
+use Rattle.engine.specs.declared.Subject.{Subject}
+use Rattle.engine.proofs.configs.Good.{GoodSubject, GoodConfig}
+use Rattle.engine.proofs.configs.ModelFacts.{RightState, subject-there, initial-there, initial-runs}
+use Rattle.engine.proofs.configs.ValidLaws.{HeldSubject, held-at, fields-read, fields-by}
+use Rattle.engine.specs.configs.Subjects.{enters}
+use Rattle.engine.specs.commands.Deliver.{started, deliveredAs, deliveredTo, delivering}
+use Rattle.engine.specs.commands.Leave.{withdrawing, leaving}
 use Rattle.engine.proofs.KeptOne.{idle-none, good-stock, good-enter, right-here}
 use Rattle.engine.proofs.SweepLaws.{sweep-other, sweep-each, sweep-mask, sweep-pool, sweep-held, delivered-pool}
 
 -- ---- one subject
 
-good-pool : (m : Model) (s : ℕ) (p : Pool) (x : Subject) → GoodSubject m s x → Well p → allOf (entryValid (m .n)) (held p) ≡ true
+good-pool : (m : Model) (s : ℕ) (p : Pool) (x : Subject) → GoodSubject m s x → Well mostEntries p → allOf (entryValid (m .n)) (held p) ≡ true
     → rowsKept (subjectAt m s) (held p) ≡ true → GoodSubject m s (withPool p x)
 unfolding fieldsRight marksRight
 good-pool m s p x h w e r = record { fields = h .fields; marks = h .marks; well = w; entries = e; rows = r }
 
 module _ (m : Model) (r s : ℕ) (x : Subject) (h : GoodSubject m r x) where
-  good-withdrawn : GoodSubject m r (withPool (withdrawnFrom s (x .pool)) x)
+  good-withdrawn : GoodSubject m r (withPool (withdrawnFrom mostEntries s (x .pool)) x)
   good-withdrawn =
       good-pool
       m
       r
-      (withdrawnFrom s (x .pool))
+      (withdrawnFrom mostEntries s (x .pool))
       x
       h
-      (well-withdrawn s (x .pool) (h .well))
-      (rw (held-withdrawn s (x .pool)) (withdrawn-all-valid s (held (x .pool)) (m .n) (h .entries)))
-      (rw (held-withdrawn s (x .pool)) (withdrawn-rows (subjectAt m r) s (held (x .pool)) (h .rows)))
+      (well-withdrawn mostEntries s (x .pool) (h .well))
+      (rw (held-withdrawn mostEntries s (x .pool)) (withdrawn-all-valid s (held (x .pool)) (m .n) (h .entries)))
+      (rw (held-withdrawn mostEntries s (x .pool)) (withdrawn-rows (subjectAt m r) s (held (x .pool)) (h .rows)))
 
-  good-delivered : (w : ℕ) → GoodSubject m r (withPool (deliveredIn s w (x .pool)) x)
+  good-delivered : (w : ℕ) → GoodSubject m r (withPool (deliveredIn mostEntries s w (x .pool)) x)
   good-delivered w =
       good-pool
       m
       r
-      (deliveredIn s w (x .pool))
+      (deliveredIn mostEntries s w (x .pool))
       x
       h
-      (well-delivered s (x .pool) w (h .well))
-      (rw (held-delivered s (x .pool) w) (delivered-all-valid s w (held (x .pool)) (m .n) (h .entries)))
-      (rw (held-delivered s (x .pool) w) (delivered-rows (subjectAt m r) s (held (x .pool)) (h .rows) w))
+      (well-delivered mostEntries s (x .pool) w (h .well))
+      (rw (held-delivered mostEntries s (x .pool) w) (delivered-all-valid s w (held (x .pool)) (m .n) (h .entries)))
+      (rw (held-delivered mostEntries s (x .pool) w) (delivered-rows (subjectAt m r) s (held (x .pool)) (h .rows) w))
 
 -- who is not running has mask 0
 still-mask : (m : Model) (r : ℕ) (x : Subject) → GoodSubject m r x → x .mode ≢ running → x .mask ≡ 0
@@ -136,21 +139,21 @@ module _ (initial : ℕ) (x : Subject) where
 
 -- the same, receiver or not
 module _ (receives : Bool) (initial s w : ℕ) (x : Subject) where
-  given-runs : x .mode ≡ running → deliveredAs receives initial s w x ≡ withPool (deliveredIn s w (x .pool)) x
+  given-runs : x .mode ≡ running → deliveredAs receives initial s w x ≡ withPool (deliveredIn mostEntries s w (x .pool)) x
   unfolding deliveredAs
   given-runs e =
       choose
-      (λ (y : Subject). y ≡ withPool (deliveredIn s w (x .pool)) x)
+      (λ (y : Subject). y ≡ withPool (deliveredIn mostEntries s w (x .pool)) x)
       receives
-      (λ _. started-runs initial (withPool (deliveredIn s w (x .pool)) x) e)
+      (λ _. started-runs initial (withPool (deliveredIn mostEntries s w (x .pool)) x) e)
       (λ _. refl)
 
   given-held : HeldSubject x → HeldSubject (deliveredAs receives initial s w x)
   unfolding deliveredAs
   given-held h =
-      let y : HeldSubject (withPool (deliveredIn s w (x .pool)) x) =
-      record { marks = h .marks; entries = delivered-places s (x .pool) (h .entries) w; mask = h .mask } in
-      choose HeldSubject receives (λ _. started-held initial (withPool (deliveredIn s w (x .pool)) x) y) (λ _. y)
+      let y : HeldSubject (withPool (deliveredIn mostEntries s w (x .pool)) x) =
+      record { marks = h .marks; entries = delivered-places mostEntries s (x .pool) (h .entries) w; mask = h .mask } in
+      choose HeldSubject receives (λ _. started-held initial (withPool (deliveredIn mostEntries s w (x .pool)) x) y) (λ _. y)
 
   module _ (h : x .mode ≢ running → x .mask ≡ 0) where
     given-mask : deliveredAs receives initial s w x .mask ≡ x .mask
@@ -159,7 +162,7 @@ module _ (receives : Bool) (initial s w : ℕ) (x : Subject) where
         choose
         (λ (y : Subject). y .mask ≡ x .mask)
         receives
-        (λ _. started-mask initial (withPool (deliveredIn s w (x .pool)) x) h)
+        (λ _. started-mask initial (withPool (deliveredIn mostEntries s w (x .pool)) x) h)
         (λ _. refl)
 
     given-state : (deliveredAs receives initial s w x .state ≡ x .state) ⊎ (x .mask ≡ 0)
@@ -168,7 +171,7 @@ module _ (receives : Bool) (initial s w : ℕ) (x : Subject) where
         choose
         (λ (y : Subject). (y .state ≡ x .state) ⊎ (x .mask ≡ 0))
         receives
-        (λ _. started-state initial (withPool (deliveredIn s w (x .pool)) x) h)
+        (λ _. started-state initial (withPool (deliveredIn mostEntries s w (x .pool)) x) h)
         (λ _. inl refl)
 
 good-given : (m : Model) (v : valid m ≡ true) (r : ℕ) → r < m .n → (receives : Bool) (s w : ℕ) (x : Subject) → GoodSubject m r x
@@ -178,22 +181,22 @@ good-given m v r l receives s w x h =
     choose
     (GoodSubject m r)
     receives
-    (λ _. good-started m v r l (withPool (deliveredIn s w (x .pool)) x) (good-delivered m r s x h w))
+    (λ _. good-started m v r l (withPool (deliveredIn mostEntries s w (x .pool)) x) (good-delivered m r s x h w))
     (λ _. good-delivered m r s x h w)
 
 -- ---- a subject that is not there stays so
 
-nobody-pool : (p : Pool) → p ≡ pooled [] → withPool p nobody ≡ nobody
+nobody-pool : (p : Pool) → p ≡ pooled mostEntries [] → withPool p nobody ≡ nobody
 unfolding nobody
 nobody-pool p e = ap (λ (q : Pool). withPool q nobody) e
 
-nobody-withdrawn : (s : ℕ) → withPool (withdrawnFrom s (nobody .pool)) nobody ≡ nobody
+nobody-withdrawn : (s : ℕ) → withPool (withdrawnFrom mostEntries s (nobody .pool)) nobody ≡ nobody
 unfolding nobody
-nobody-withdrawn s = nobody-pool (withdrawnFrom s (pooled [])) (withdrawn-empty s)
+nobody-withdrawn s = nobody-pool (withdrawnFrom mostEntries s (pooled mostEntries [])) (withdrawn-empty mostEntries s)
 
 nobody-given : (initial s w : ℕ) → deliveredAs false initial s w nobody ≡ nobody
 unfolding nobody deliveredAs
-nobody-given initial s w = nobody-pool (deliveredIn s w (pooled [])) (delivered-empty s w)
+nobody-given initial s w = nobody-pool (deliveredIn mostEntries s w (pooled mostEntries [])) (delivered-empty mostEntries s w)
 
 -- ---- a step that changes every subject by f, and its pool by g, and then has s enter a state
 
@@ -257,7 +260,7 @@ module _ (m : Model) (v : valid m ≡ true) (c : Config) (h : GoodConfig m c) (s
 
 -- what Expire and Cancel of s do to each
 abbrev withdraws : ℕ → ℕ → Subject → Subject
-withdraws s r x = withPool (withdrawnFrom s (x .pool)) x
+withdraws s r x = withPool (withdrawnFrom mostEntries s (x .pool)) x
 
 module _ (m : Model) (v : valid m ≡ true) (c : Config) (g : GoodConfig m c) (s : ℕ) (l : s < m .n) (runs : at c s .mode ≡ running) where
   -- Expire and Cancel
@@ -270,7 +273,7 @@ module _ (m : Model) (v : valid m ≡ true) (c : Config) (g : GoodConfig m c) (s
         gone = λ r _. nobody-withdrawn s;
         mask = λ r lr. refl;
         state = λ r lr. inl refl;
-        pool = λ r. held-withdrawn s (at c r .pool);
+        pool = λ r. held-withdrawn mostEntries s (at c r .pool);
         others = λ q t es ne. withdrawn-others s es q t ne;
         none = λ t es. withdrawn-none s es t;
       }
@@ -297,7 +300,7 @@ module _ (m : Model) (v : valid m ≡ true) (c : Config) (g : GoodConfig m c) (s
           gone = λ r n. rw (right .receivers r n) (nobody-given (subjectAt m r .initial) s w);
           mask = λ r lr. given-mask (bit (here .receivers) r) (subjectAt m r .initial) s w (at c r) (still r lr);
           state = λ r lr. given-state (bit (here .receivers) r) (subjectAt m r .initial) s w (at c r) (still r lr);
-          pool = λ r. ap held (delivered-pool (bit (here .receivers) r) (subjectAt m r .initial) s w (at c r)) ∙ held-delivered s (at c r .pool) w;
+          pool = λ r. ap held (delivered-pool (bit (here .receivers) r) (subjectAt m r .initial) s w (at c r)) ∙ held-delivered mostEntries s (at c r .pool) w;
           others = λ q t es ne. delivered-others s w es q t ne;
           none = λ t es. delivered-none s w es t;
         }
@@ -345,7 +348,7 @@ module _ (c : Config) (k : Held c) (s : ℕ) (l : s < mostSubjects) where
       t
       end
       l
-      (λ r j. let h = held-at c k r j in record { marks = h .marks; entries = withdrawn-places s (at c r .pool) (h .entries); mask = h .mask })
+      (λ r j. let h = held-at c k r j in record { marks = h .marks; entries = withdrawn-places mostEntries s (at c r .pool) (h .entries); mask = h .mask })
 
   pub held-deliver : (subjects : List model-subject.Subject) (here : State) (end : Bool) → Held (delivering subjects here end c s)
   unfolding delivering

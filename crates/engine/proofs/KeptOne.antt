@@ -15,7 +15,7 @@ use Rattle.sets.specs.Tests.{within}
 use Rattle.sets.specs.declared.Found.the-variants.{At}
 use Rattle.sets.proofs.Tests.{not-both, and-both, within-is, within-true, choose}
 use Rattle.sets.proofs.Below.{length-table, table-at}
-use Rattle.sets.proofs.Lists.{length-padded, all-of-without, counted-without, find-is}
+use Rattle.sets.proofs.Lists.{all-of-without, counted-without, find-is}
 use Rattle.sets.proofs.Masks.{bit-zero}
 use Rattle.model.specs.Rules.{any}
 use Rattle.model.specs.Sizes.{mostSubjects}
@@ -23,23 +23,26 @@ use Rattle.model.specs.Valid.{subjectAt, exitAt, valid}
 use Rattle.model.specs.declared.Model.{Model}
 use Rattle.model.specs.declared.State.{State}
 use Rattle.model.specs.declared.Subject as model-subject
-use Rattle.pools.specs.Entries.{blankEntry, matches, isMessage, reservedBy}
-use Rattle.pools.specs.Sizes.{mostEntries}
-use Rattle.pools.specs.Pools.{held, reservations, firstMessage, takenAt, Well}
-use Rattle.pools.specs.Rows.{rowsKept}
-use Rattle.pools.specs.Valid.{entryValid}
-use Rattle.pools.specs.declared.Entry.{Entry}
-use Rattle.pools.specs.declared.Pool.{Pool}
-use Rattle.pools.proofs.PoolLaws.{well-short, held-taken, well-taken}
-use Rattle.pools.proofs.EntryLaws.{reservations-any, rows-fewer}
-use Rattle.configs.specs.Subjects.{running, endedProperly, endedImproperly, isSend, isEnd, at, stateOf, hereOf, put, eachSubject, withWord, withWaited, withPool, entered, nobody, Held}
-use Rattle.configs.specs.Valid.{marksRight, fieldsRight, typeOf}
-use Rattle.configs.specs.declared.Config.{Config}
-use Rattle.configs.specs.declared.Subject.{Subject}
-use Rattle.configs.proofs.Good.{GoodSubject, GoodConfig}
-use Rattle.configs.proofs.ModelFacts.{RightState, subject-there, state-right}
-use Rattle.configs.proofs.ValidLaws.{at-put-other, at-each, each-put, HeldSubject, held-at, held-put, held-each, GoodFields, fields-read, fields-by, marks-read, marks-by}
-use Rattle.engine.specs.Effects.{runExit, doing, wantedAt, takingAt, markAt, withMarks, marking, runningOn, ticked, ticking}
+use Rattle.engine.specs.pools.Entries.{blankEntry, matches, isMessage, reservedBy}
+use Rattle.engine.specs.pools.Sizes.{mostEntries}
+use Rattle.engine.specs.pools.Pools.{held, reservations, firstMessage, takenAt, Well}
+use Rattle.engine.specs.pools.Rows.{rowsKept}
+use Rattle.engine.specs.pools.Valid.{entryValid}
+use Rattle.engine.specs.declared.Entry.{Entry}
+use Rattle.engine.specs.declared.Pool.{Pool}
+use Rattle.engine.proofs.pools.PoolLaws.{well-full, held-taken, well-taken}
+use Rattle.engine.proofs.pools.EntryLaws.{reservations-any, rows-fewer}
+use Rattle.engine.specs.configs.Subjects.{running, endedProperly, endedImproperly, isSend, isEnd, at, stateOf, hereOf, put, eachSubject, withWord, withWaited, withPool, entered, nobody, Held}
+use Rattle.engine.specs.configs.Valid.{marksRight, fieldsRight, typeOf}
+use Rattle.engine.specs.declared.Config.{Config}
+use Rattle.engine.specs.declared.Subject.{Subject}
+use Rattle.engine.proofs.configs.Good.{GoodSubject, GoodConfig}
+use Rattle.engine.proofs.configs.ModelFacts.{RightState, subject-there, state-right}
+use Rattle.engine.proofs.configs.ValidLaws.{at-put-other, at-each, each-put, HeldSubject, held-at, held-put, held-each, GoodFields, fields-read, fields-by, marks-read, marks-by}
+use Rattle.engine.specs.commands.Runs.{runExit, markAt, withMarks, marking, runningOn}
+use Rattle.engine.specs.commands.Doing.{doing}
+use Rattle.engine.specs.commands.Take.{wantedAt, takingAt}
+use Rattle.engine.specs.commands.Tick.{ticked, ticking}
 
 -- ---- reservations
 
@@ -80,7 +83,7 @@ module _ (m : Model) (v : valid m ≡ true) (c : Config) (k : Held c) (g : GoodC
 
 pub record GoodStock (m : Model) (s : ℕ) (x : Subject) : Type 0 where
   pub marks : marksRight (m .n) x ≡ true
-  pub well : Well (x .pool)
+  pub well : Well mostEntries (x .pool)
   pub entries : allOf (entryValid (m .n)) (held (x .pool)) ≡ true
   pub rows : rowsKept (subjectAt m s) (held (x .pool)) ≡ true
 
@@ -96,9 +99,6 @@ stock-same m s x y g a b =
       entries = rw b (g .entries);
       rows = rw b (g .rows);
     }
-
-pub well-full : (p : Pool) → Well p → length (p .entries) ≡ mostEntries
-well-full p w = ap length (w .exact) ∙ length-padded mostEntries blankEntry (held p) (well-short p w)
 
 -- ---- one entry is taken out
 
@@ -122,14 +122,14 @@ without-message q t a b i es l h =
     let x = and-both (e .message) (matches a b e) h in
     omega (arith, rw (x .left) at (counted-without (reservedBy q t) i es blankEntry l))
 
-pub stock-taken : (m : Model) (s : ℕ) (x : Subject) (i : ℕ) → GoodStock m s x → GoodStock m s (withPool (takenAt (x .pool) i .pool) x)
+pub stock-taken : (m : Model) (s : ℕ) (x : Subject) (i : ℕ) → GoodStock m s x → GoodStock m s (withPool (takenAt mostEntries (x .pool) i .pool) x)
 stock-taken m s x i g =
     record {
-      marks = marks-by (m .n) (withPool (takenAt (x .pool) i .pool) x) (marks-read (m .n) x (g .marks));
-      well = well-taken (x .pool) i (g .well);
-      entries = rw (held-taken (x .pool) i) (all-of-without (entryValid (m .n)) i (held (x .pool)) (g .entries));
+      marks = marks-by (m .n) (withPool (takenAt mostEntries (x .pool) i .pool) x) (marks-read (m .n) x (g .marks));
+      well = well-taken mostEntries (x .pool) i (g .well);
+      entries = rw (held-taken mostEntries (x .pool) i) (all-of-without (entryValid (m .n)) i (held (x .pool)) (g .entries));
       rows =
-          rw (held-taken (x .pool) i)
+          rw (held-taken mostEntries (x .pool) i)
           (rows-fewer (subjectAt m s) (held (x .pool)) (without i (held (x .pool))) (λ a b. without-counted (matches a b) i (held (x .pool))) (g .rows));
     }
 
@@ -308,11 +308,11 @@ module _ (m : Model) (v : valid m ≡ true) (c : Config) (k : Held c) (g : GoodC
 
   -- what was taken out was a message: no reservation is gone
   taken-same : (e i : ℕ) → wantedAt here e (at c s) ≡ At i → (q t : ℕ)
-      → reservations q t (held (takenAt (at c s .pool) i .pool)) ≡ reservations q t (held (at c s .pool))
+      → reservations q t (held (takenAt mostEntries (at c s .pool) i .pool)) ≡ reservations q t (held (at c s .pool))
   unfolding firstMessage
   taken-same e i h q t =
       let f = find-is (isMessage (exitAt here e .sender) (exitAt here e .typ)) (held (at c s .pool)) blankEntry i h in
-      ap (reservations q t) (held-taken (at c s .pool) i)
+      ap (reservations q t) (held-taken mostEntries (at c s .pool) i)
       ∙ without-message q t (exitAt here e .sender) (exitAt here e .typ) i (held (at c s .pool)) (f .below) (f .here)
 
   pub kept-take : here .kind ≡ 3 → (e i : ℕ) → e < here .exits → wantedAt here e (at c s) ≡ At i → (end : Bool)
@@ -321,8 +321,8 @@ module _ (m : Model) (v : valid m ≡ true) (c : Config) (k : Held c) (g : GoodC
   kept-take kind e i le h end is-end =
       kept-enter
       (rw kind)
-      (withWord (takenAt (at c s .pool) i .content) (withPool (takenAt (at c s .pool) i .pool) (at c s)))
-      (stock-same m s (withPool (takenAt (at c s .pool) i .pool) (at c s)) _ (stock-taken m s (at c s) i stock) refl refl)
+      (withWord (takenAt mostEntries (at c s .pool) i .content) (withPool (takenAt mostEntries (at c s .pool) i .pool) (at c s)))
+      (stock-same m s (withPool (takenAt mostEntries (at c s .pool) i .pool) (at c s)) _ (stock-taken m s (at c s) i stock) refl refl)
       runs
       (taken-same e i h)
       (exitAt here e .target)
@@ -453,17 +453,17 @@ module _ (c : Config) (k : Held c) where
         k
         (held-enter (exitAt here e .target) end (withWord w (at c s)) (h .marks) (h .entries))
 
-    pub held-take : Well (at c s .pool) → (e i : ℕ) → Held (takingAt (At i) here end c s e)
+    pub held-take : Well mostEntries (at c s .pool) → (e i : ℕ) → Held (takingAt (At i) here end c s e)
     unfolding takingAt
     held-take w e i =
-        let x = withWord (takenAt (at c s .pool) i .content) (withPool (takenAt (at c s .pool) i .pool) (at c s)) in
+        let x = withWord (takenAt mostEntries (at c s .pool) i .content) (withPool (takenAt mostEntries (at c s .pool) i .pool) (at c s)) in
         held-put
         c
         s
         (entered (exitAt here e .target) end x)
         l
         k
-        (held-enter (exitAt here e .target) end x (held-at c k s l .marks) (well-full (takenAt (at c s .pool) i .pool) (well-taken (at c s .pool) i w)))
+        (held-enter (exitAt here e .target) end x (held-at c k s l .marks) (well-full mostEntries (takenAt mostEntries (at c s .pool) i .pool) (well-taken mostEntries (at c s .pool) i w)))
 
     pub held-run : (n : ℕ) → Held (runningOn n here end c s)
     unfolding runningOn

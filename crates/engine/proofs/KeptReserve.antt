@@ -14,27 +14,27 @@ use Rattle.model.specs.Sizes.{mostSubjects}
 use Rattle.model.specs.Valid.{subjectAt, valid}
 use Rattle.model.specs.declared.Model.{Model}
 use Rattle.model.specs.declared.State.{State}
-use Rattle.pools.specs.Entries.{reservation, fits}
-use Rattle.pools.specs.Sizes.{mostEntries}
-use Rattle.pools.specs.Pools.{held, appended, reservations, Well}
-use Rattle.pools.specs.Rows.{rowsKept, hasRoom}
-use Rattle.pools.specs.Valid.{entryValid}
-use Rattle.pools.specs.declared.Pool.{Pool}
-use Rattle.pools.proofs.AppendLaws.{length-appended, held-appended, well-appended, valid-reserved, count-reserved, place-free, rows-reserved}
-use Rattle.configs.specs.Subjects.{running, nobody, at, stateOf, hereOf, withMask, withPool, Held}
-use Rattle.configs.specs.Valid.{typeOf, fieldsRight, marksRight}
-use Rattle.configs.specs.declared.Config.{Config}
-use Rattle.configs.specs.declared.Subject.{Subject}
-use Rattle.configs.proofs.Good.{GoodSubject, GoodConfig}
-use Rattle.configs.proofs.ModelFacts.{n-high, RightState, state-right}
-use Rattle.configs.proofs.ValidLaws.{fields-read, fields-by, HeldSubject, held-by}
-use Rattle.engine.specs.Reserve.{rounds, reserving}
+use Rattle.engine.specs.pools.Entries.{reservation, fits}
+use Rattle.engine.specs.pools.Sizes.{mostEntries}
+use Rattle.engine.specs.pools.Pools.{held, appended, reservations, Well}
+use Rattle.engine.specs.pools.Rows.{rowsKept, hasRoom}
+use Rattle.engine.specs.pools.Valid.{entryValid}
+use Rattle.engine.specs.declared.Pool.{Pool}
+use Rattle.engine.proofs.pools.AppendLaws.{length-appended, held-appended, well-appended, valid-reserved, count-reserved, place-free, rows-reserved}
+use Rattle.engine.specs.configs.Subjects.{running, nobody, at, stateOf, hereOf, withMask, withPool, Held}
+use Rattle.engine.specs.configs.Valid.{typeOf, fieldsRight, marksRight}
+use Rattle.engine.specs.declared.Config.{Config}
+use Rattle.engine.specs.declared.Subject.{Subject}
+use Rattle.engine.proofs.configs.Good.{GoodSubject, GoodConfig}
+use Rattle.engine.proofs.configs.ModelFacts.{n-high, RightState, state-right}
+use Rattle.engine.proofs.configs.ValidLaws.{fields-read, fields-by, HeldSubject, held-by}
+use Rattle.engine.specs.commands.Reserve.{rounds, reserving}
 use Rattle.engine.specs.declared.Reply.the-variants.{Placed}
 use Rattle.engine.proofs.RoundLaws.{isReply, placed-room, isAsked, replyIn, answers, round-after, noted-is, size-reserving, reserving-at}
 
 -- the pool of subject r is good
 record GoodPool (m : Model) (r : ℕ) (p : Pool) : Type 0 where
-  well : Well p
+  well : Well mostEntries p
   entries : allOf (entryValid (m .n)) (held p) ≡ true
   rows : rowsKept (subjectAt m r) (held p) ≡ true
 
@@ -56,7 +56,7 @@ abbrev gives : Model → Config → ℕ → ℕ → Bool
 gives m c s r = answers (m .subjects) (hereOf m c s) c s Placed r
 
 abbrev poolAfter : Model → Config → ℕ → ℕ → Pool
-poolAfter m c s r = cond (gives m c s r) (appended (at c r .pool) (reservation s (typeOf (hereOf m c s)))) (at c r .pool)
+poolAfter m c s r = cond (gives m c s r) (appended mostEntries (at c r .pool) (reservation s (typeOf (hereOf m c s)))) (at c r .pool)
 
 abbrev maskAfter : Model → Config → ℕ → ℕ → ℕ
 maskAfter m c s r = cond (eqb r s) (rounds (m .subjects) (hereOf m c s) c s .places .mask) (at c r .mask)
@@ -66,7 +66,7 @@ module _ (m : Model) (c : Config) (s : ℕ) where
   record Giver (r : ℕ) : Type 0 where
     receiver : bit (hereOf m c s .receivers) r ≡ true
     free : bit (at c s .mask) r ≡ false
-    room : hasRoom (subjectAt m r) (held (at c r .pool)) s (typeOf (hereOf m c s)) ≡ true
+    room : hasRoom mostEntries (subjectAt m r) (held (at c r .pool)) s (typeOf (hereOf m c s)) ≡ true
 
   giver : (r : ℕ) → gives m c s r ≡ true → Giver r
   unfolding answers isAsked replyIn
@@ -149,12 +149,12 @@ module _ (m : Model) (c : Config) (s : ℕ) where
         (λ e. let room = giver r e .room in
         let es = held (at c r .pool) in
         let t = typeOf (hereOf m c s) in
-        let free = place-free es s t (subjectAt m r) room in
-        let long = held-appended (at c r .pool) (reservation s t) (k .entries r (omega (arith, few))) free in
+        let free = place-free mostEntries es s t (subjectAt m r) room in
+        let long = held-appended mostEntries (at c r .pool) (reservation s t) in
         record {
-          well = well-appended (at c r .pool) (reservation s t) (x .well) free;
+          well = well-appended mostEntries (at c r .pool) (reservation s t) free;
           entries = rw long (valid-reserved es s t (m .n) l (right .sends send) (x .entries));
-          rows = rw long (rows-reserved es s t (subjectAt m r) room (x .rows));
+          rows = rw long (rows-reserved mostEntries es s t (subjectAt m r) room (x .rows));
         })
         (λ _. record { well = x .well; entries = x .entries; rows = x .rows })
       where
@@ -166,7 +166,7 @@ module _ (m : Model) (c : Config) (s : ℕ) where
         choose
         (λ (p : Pool). length (p .entries) ≡ mostEntries)
         (gives m c s r)
-        (λ _. length-appended (at c r .pool) (reservation s (typeOf (hereOf m c s))) ∙ k .entries r j)
+        (λ e. length-appended mostEntries (at c r .pool) (reservation s (typeOf (hereOf m c s))) (place-free mostEntries (held (at c r .pool)) s (typeOf (hereOf m c s)) (subjectAt m r) (giver r e .room)))
         (λ _. k .entries r j)
 
     -- how many reservations there are
@@ -179,8 +179,7 @@ module _ (m : Model) (c : Config) (s : ℕ) where
             → reservations q t (held (poolAfter m c s r))
             ≡ reservations q t (held (at c r .pool)) + cond (gives m c s r && (eqb s q && fits t (typeOf (hereOf m c s)))) 1 0
         go true e =
-            let free = place-free (held (at c r .pool)) s (typeOf (hereOf m c s)) (subjectAt m r) (giver r e .room) in
-            rw (e, held-appended (at c r .pool) (reservation s (typeOf (hereOf m c s))) (k .entries r j) free)
+            rw (e, held-appended mostEntries (at c r .pool) (reservation s (typeOf (hereOf m c s))))
             (count-reserved (held (at c r .pool)) s (typeOf (hereOf m c s)) q t)
         go false e = rw e (omega arith)
 

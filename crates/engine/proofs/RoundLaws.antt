@@ -18,19 +18,22 @@ use Rattle.model.specs.Sizes.{mostSubjects}
 use Rattle.model.specs.Valid.{noSubject}
 use Rattle.model.specs.declared.State.{State}
 use Rattle.model.specs.declared.Subject as model-subject
-use Rattle.pools.specs.Entries.{reservation}
-use Rattle.pools.specs.Pools.{held, appended}
-use Rattle.pools.specs.Rows.{hasRoom}
-use Rattle.pools.specs.declared.Pool.{Pool}
-use Rattle.configs.specs.Subjects.{endedImproperly, noOne, at, put, withMask, withPool}
-use Rattle.configs.specs.Valid.{typeOf}
-use Rattle.configs.specs.declared.Config.{Config}
-use Rattle.configs.specs.declared.Subject.{Subject}
-use Rattle.engine.specs.Reserve.{isClosed, replyOf, withPlace, noted, turnAs, turnOf, begun, rounds, reserving, answered}
+use Rattle.engine.specs.pools.Sizes.{mostEntries}
+use Rattle.engine.specs.pools.Entries.{reservation}
+use Rattle.engine.specs.pools.Pools.{held, appended, Well}
+use Rattle.engine.specs.pools.Rows.{hasRoom}
+use Rattle.engine.specs.declared.Pool.{Pool}
+use Rattle.engine.specs.configs.Subjects.{endedImproperly, noOne, at, put, withMask, withPool}
+use Rattle.engine.specs.configs.Valid.{typeOf}
+use Rattle.engine.specs.declared.Config.{Config}
+use Rattle.engine.specs.declared.Subject.{Subject}
+use Rattle.engine.specs.commands.Reserve.{isClosed, replyOf, withPlace, noted, turnAs, turnOf, begun, rounds, reserving, answered}
 use Rattle.engine.specs.declared.Places.{Places}
 use Rattle.engine.specs.declared.Reply.{Reply}
 use Rattle.engine.specs.declared.Reply.the-variants.{Placed, Improper, Closed, Full}
-use Rattle.engine.specs.declared.Round.{Round}
+use Rattle.engine.specs.commands.Reserve.{Round}
+use Rattle.engine.proofs.pools.AppendLaws.{place-free}
+use Rattle.engine.proofs.pools.PoolLaws.{length-held}
 
 -- ---- replies
 
@@ -132,7 +135,7 @@ narrow-noted w a r p l h = record { mask = mask-lt w a r p l (h .mask); noted = 
 
 -- a subject with a reservation of the sender at the end of its pool
 abbrev pub withReservation : ℕ → ℕ → Subject → Subject
-withReservation sender typ x = withPool (appended (x .pool) (reservation sender typ)) x
+withReservation sender typ x = withPool (appended mostEntries (x .pool) (reservation sender typ)) x
 
 placed-is : (a : Reply) (s t : ℕ) (x : Subject) → withPlace a s t x ≡ cond (isReply Placed a) (withReservation s t x) x
 unfolding withPlace isReply
@@ -142,15 +145,23 @@ placed-is Closed s t x = refl
 placed-is Full s t x = refl
 
 -- who gives a place had room for it
-pub placed-room : (own : model-subject.Subject) (x : Subject) (s t : ℕ) → isReply Placed (replyOf own x s t) ≡ true → hasRoom own (held (x .pool)) s t ≡ true
+pub placed-room : (own : model-subject.Subject) (x : Subject) (s t : ℕ) → isReply Placed (replyOf own x s t) ≡ true → hasRoom mostEntries own (held (x .pool)) s t ≡ true
 unfolding replyOf isReply
-placed-room own x s t h = go (eqb (x .mode) endedImproperly) (isClosed x s t) (hasRoom own (held (x .pool)) s t) h
+placed-room own x s t h = go (eqb (x .mode) endedImproperly) (isClosed x s t) (hasRoom mostEntries own (held (x .pool)) s t) h
   where
     go : (a b d : Bool) → isReply Placed (cond a Improper (cond b Closed (cond (not d) Full Placed))) ≡ true → d ≡ true
     go true b d e = not-both e refl
     go false true d e = not-both e refl
     go false false true e = refl
     go false false false e = not-both e refl
+
+-- and so a place
+pub placed-place : (own : model-subject.Subject) (x : Subject) (s t : ℕ) → Well mostEntries (x .pool) → replyOf own x s t ≡ Placed
+    → x .pool .count < mostEntries
+unfolding isReply
+placed-place own x s t w h =
+    let room = placed-room own x s t (ap (isReply Placed) h) in
+    omega (arith, length-held mostEntries (x .pool) w, place-free mostEntries (held (x .pool)) s t own room)
 
 -- ---- a turn
 
@@ -329,7 +340,7 @@ module _ (subjects : List model-subject.Subject) (here : State) (c : Config) (s 
     pub reserving-at : s < mostSubjects → (r : ℕ) → r < mostSubjects
         → at (reserving subjects here c s .config) r
         ≡ withMask (cond (eqb r s) (rounds subjects here c s .places .mask) (at c r .mask))
-        (withPool (cond (answers subjects here c s Placed r) (appended (at c r .pool) (reservation s (typeOf here))) (at c r .pool)) (at c r))
+        (withPool (cond (answers subjects here c s Placed r) (appended mostEntries (at c r .pool) (reservation s (typeOf here))) (at c r .pool)) (at c r))
     unfolding reserving answered
     reserving-at ls r l = go (eqb r s) refl
       where
@@ -341,13 +352,13 @@ module _ (subjects : List model-subject.Subject) (here : State) (c : Config) (s 
         pooled false p x = refl
 
         is : (k : ℕ) → k < mostSubjects
-            → at now k ≡ withPool (cond (answers subjects here c s Placed k) (appended (at c k .pool) (reservation s (typeOf here))) (at c k .pool)) (at c k)
+            → at now k ≡ withPool (cond (answers subjects here c s Placed k) (appended mostEntries (at c k .pool) (reservation s (typeOf here))) (at c k .pool)) (at c k)
         is k g = round-after .earlier k g (omega (arith, h)) ∙ pooled (answers subjects here c s Placed k) _ (at c k)
 
         go : (b : Bool) → eqb r s ≡ b
             → at (put now s (withMask (rounds subjects here c s .places .mask) (at now s))) r
             ≡ withMask (cond (eqb r s) (rounds subjects here c s .places .mask) (at c r .mask))
-            (withPool (cond (answers subjects here c s Placed r) (appended (at c r .pool) (reservation s (typeOf here))) (at c r .pool)) (at c r))
+            (withPool (cond (answers subjects here c s Placed r) (appended mostEntries (at c r .pool) (reservation s (typeOf here))) (at c r .pool)) (at c r))
         go true e =
             rw (e, eqb-true r s e)
             (getD-set-same (now .subjects) s _ noOne (omega (arith, round-after .size, h))

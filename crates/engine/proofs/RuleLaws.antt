@@ -3,29 +3,32 @@ use mathlib.Core.Path.{_≡_, refl, sym, ap, subst, _∙_}
 use mathlib.Core.Logic.{_↔_}
 use mathlib.Core.Bool.{Bool, true, false, _&&_, not, cond}
 use mathlib.Core.List.{List, [], _∷_, _++_}
-use Prim.Native.Nat.{ℕ, zero, suc, _<_, suc-le-suc}
+use Prim.Native.Nat.{ℕ, zero, suc, _≤_, _<_, suc-le-suc}
 use native.Mathlib.Nat.{not-suc-le-zero, le-of-suc-le-suc}
 use native.Mathlib.Omega.{arith}
-use borrow.Author.Tests.{leb-false, ltb-true, eqb-true, ne-eqb, not-false}
-use lib.Dec.{eqb, leb, ltb}
+use borrow.Author.Tests.{leb-false, le-leb, lt-ltb, ltb-true, eqb-true, ne-eqb}
+use lib.Dec.{eqb, ltb}
 use lib.ListN.{length}
-use Rattle.sets.specs.Tests.{within}
+use Rattle.sets.specs.Masks.{bit}
+use Rattle.sets.proofs.Below.{none-some}
+use Rattle.sets.proofs.Masks.{bit-zero}
 use Rattle.sets.proofs.Tests.{and-both, choose}
-use Rattle.model.specs.Rules.{any}
+use Rattle.model.specs.Sizes.{mostSubjects}
 use Rattle.model.specs.declared.State.{State}
 use Rattle.model.specs.declared.Subject as model-subject
-use Rattle.configs.specs.Answers.{refusalOf, refused}
-use Rattle.configs.specs.Subjects.{running, isSend, at}
-use Rattle.configs.specs.declared.Config.{Config}
-use Rattle.configs.specs.declared.Stepped.{Stepped}
-use Rattle.engine.specs.Commands.{names, subjectOf, isCode}
-use Rattle.engine.specs.Effects.{wantedAt}
-use Rattle.engine.specs.Exact.{holdsAt, numberAt, FirstRule, NoRule}
-use Rattle.engine.specs.Reserve.{answered, reserving}
-use Rattle.engine.specs.Rules.{noSubject, notRunning, wrongKind, noExit, isNothing, noMessage, missesPlace, placeMissing, someImproper, notPlaced, improperReceiver, noTarget, tooEarly, canDeliver, sendFirst, kindRules, rules, firstNumber, guarded}
-use Rattle.engine.specs.Steps.{effect, acts, firstRules, turnRules}
+use Rattle.engine.specs.configs.Answers.{refusalOf, refused}
+use Rattle.engine.specs.configs.Subjects.{endedImproperly, at}
+use Rattle.engine.specs.commands.Codes.{subjectOf}
+use Rattle.engine.specs.commands.Exact.{holdsAt, numberAt, FirstRule, NoRule}
+use Rattle.engine.specs.commands.Reserve.{answered, reserving}
+use Rattle.engine.specs.commands.Rules.{someImproper, rulesFor, firstNumber, guarded}
+use Rattle.engine.specs.Steps.{effect}
+use Rattle.engine.specs.inner.Spine.{asksOf, improperAmong}
 use Rattle.engine.specs.declared.Command.{Command}
 use Rattle.engine.specs.declared.Command.the-variants.{Do, Reserve, Deliver, Take, Run, Expire, Cancel, Tick}
+use Rattle.engine.specs.declared.Config.{Config}
+use Rattle.engine.specs.declared.Stepped.{Stepped}
+use Rattle.engine.specs.declared.Subject.{Subject}
 
 -- ---- any rules
 
@@ -180,6 +183,12 @@ none-from k (rule ∷ rest) up h j =
 pub number-none : (list : List (Bool × ℕ)) → ascends 0 list ≡ true → firstNumber list ≡ 0 → NoRule list
 number-none list up h = record { none = λ j l. none-from 0 list up h j }
 
+-- past the last rule none holds either
+pub none-holds : (list : List (Bool × ℕ)) → NoRule list → (j : ℕ) → holdsAt list j ≡ false
+none-holds [] f j = refl
+none-holds (rule ∷ rest) f zero = f .none zero (omega arith)
+none-holds (rule ∷ rest) f (suc j) = none-holds rest (record { none = λ i l. f .none (suc i) (suc-le-suc l) }) j
+
 -- as it is where the step is accepted
 accepted-number : (c : Config) (list : List (Bool × ℕ)) (next : Stepped) → ascends 0 list ≡ true → refusalOf (guarded c list next .answer) ≡ 0 → firstNumber list ≡ 0
 accepted-number c list next up h =
@@ -233,132 +242,65 @@ effect-accepted n subjects here end c (Expire s) = refl
 effect-accepted n subjects here end c (Cancel s) = refl
 effect-accepted n subjects here end c Tick = refl
 
--- a step by the fault that was found, and by what is read of the model
-unfoldable pub turned : ℕ → ℕ → ℕ → List model-subject.Subject → State → Bool → Config → Command → Stepped
-turned fault code n subjects here end c k =
-    guarded c ((eqb fault 8, 8) ∷ (not (isCode code), 9) ∷ (eqb fault 10, 10) ∷ []) (acts n subjects here end c k)
-
--- a step by the fault that was found is told by its number: 8, 9, 10, then 11 to 20
-pub turned-number :
-    (fault code n : ℕ) (subjects : List model-subject.Subject) (here : State) (end : Bool) (c : Config) (k : Command)
-    → turned fault code n subjects here end c k
-    ≡ cond (eqb (firstNumber (turnRules fault code n here c k)) 0)
-    (effect n subjects here end c k)
-    (refused c (firstNumber (turnRules fault code n here c k)))
-unfolding turned acts guarded ascends
-turned-number fault code n subjects here end c k =
-    guarded-number c (turnRules fault code n here c k) (effect n subjects here end c k) refl
-
 -- ---- the rules of each command
 
--- the end of a path, said the other way
-pub onto : {A : Type 0} {x y z : A} → x ≡ y → z ≡ y → z ≡ x
-onto p q = q ∙ sym p
+-- their numbers ascend, from above 10
+pub rules-ascend : (n : ℕ) (here : State) (x : Subject) (improper : Bool) (k : Command) → ascends 10 (rulesFor n here x improper k) ≡ true
+unfolding ascends
+rules-ascend n here x improper (Do s e w) = refl
+rules-ascend n here x improper (Reserve s) = refl
+rules-ascend n here x improper (Deliver s) = refl
+rules-ascend n here x improper (Take s e) = refl
+rules-ascend n here x improper (Run s) = refl
+rules-ascend n here x improper (Expire s) = refl
+rules-ascend n here x improper (Cancel s) = refl
+rules-ascend n here x improper Tick = refl
 
--- of three rules the last does not hold where none does
-last-none : (a b d : Bool) → _≡_ {A = ℕ} (cond a 13 (cond b 14 (cond d 15 0))) 0 → d ≡ false
-last-none a b false h = refl
-last-none true b true h = absurd (omega (arith, h))
-last-none false true true h = absurd (omega (arith, h))
-last-none false false true h = absurd (omega (arith, h))
+-- a list that ascends from above k does so from above a smaller number
+pub ascends-from : (j k : ℕ) (list : List (Bool × ℕ)) → j ≤ k → ascends k list ≡ true → ascends j list ≡ true
+unfolding ascends
+ascends-from j k [] l up = refl
+ascends-from j k (rule ∷ rest) l up =
+    rw (lt-ltb j (rule .1) (omega (arith, ascends-first k rule rest up)), ascends-rest k rule rest up)
 
--- of each command that names a subject, the first number of the rules of its kind
-module _ (here : State) (c : Config) (s : ℕ) where
-  pub do-number : (e w : ℕ) → firstNumber (kindRules here c (Do s e w)) ≡ cond (not (eqb (here .kind) 1)) 13 (cond (leb (here .exits) e) 14 0)
-  unfolding firstNumber wrongKind noExit noMessage notPlaced improperReceiver noTarget tooEarly sendFirst
-  do-number e w = refl
-
-  pub reserve-number : firstNumber (kindRules here c (Reserve s)) ≡ cond (not (isSend (here .kind))) 13 0
-  unfolding firstNumber wrongKind noExit noMessage notPlaced improperReceiver noTarget tooEarly sendFirst
-  reserve-number = refl
-
-  pub deliver-number :
-      firstNumber (kindRules here c (Deliver s))
-      ≡ cond (not (isSend (here .kind))) 13
-      (cond (missesPlace here (at c s .mask)) 16
-      (cond (someImproper here c) 17
-      0))
-  unfolding firstNumber wrongKind noExit noMessage placeMissing notPlaced improperReceiver noTarget tooEarly sendFirst
-  deliver-number = refl
-
-  pub take-number :
-      (e : ℕ)
-      → firstNumber (kindRules here c (Take s e))
-      ≡ cond (not (eqb (here .kind) 3)) 13
-      (cond (leb (here .exits) e) 14
-      (cond (isNothing (wantedAt here e (at c s))) 15
-      0))
-  unfolding firstNumber wrongKind noExit noMessage notPlaced improperReceiver noTarget tooEarly sendFirst
-  take-number e = refl
-
-  -- where it is accepted there is one
-  pub take-found : (e : ℕ) → firstNumber (kindRules here c (Take s e)) ≡ 0 → isNothing (wantedAt here e (at c s)) ≡ false
-  take-found e h =
-      last-none (not (eqb (here .kind) 3)) (leb (here .exits) e) (isNothing (wantedAt here e (at c s))) (sym (take-number e) ∙ h)
-
-  pub run-number : firstNumber (kindRules here c (Run s)) ≡ cond (not (within 4 (here .kind) 6)) 13 0
-  unfolding firstNumber wrongKind noExit noMessage notPlaced improperReceiver noTarget tooEarly sendFirst
-  run-number = refl
-
-  pub expire-number :
-      firstNumber (kindRules here c (Expire s))
-      ≡ cond (eqb (here .timeout) any) 18
-      (cond (ltb (at c s .waited) (here .after)) 19
-      (cond (isSend (here .kind) && (not (missesPlace here (at c s .mask)) && not (someImproper here c))) 20
-      0))
-  unfolding firstNumber wrongKind noExit noMessage placeMissing notPlaced improperReceiver noTarget tooEarly canDeliver sendFirst
-  expire-number = refl
-
-  pub cancel-number : firstNumber (kindRules here c (Cancel s)) ≡ cond (eqb (here .cancel) any) 18 0
-  unfolding firstNumber wrongKind noExit noMessage notPlaced improperReceiver noTarget tooEarly sendFirst
-  cancel-number = refl
-
--- Tick has none
-pub tick-number : (here : State) (c : Config) → firstNumber (kindRules here c Tick) ≡ 0
-unfolding firstNumber wrongKind noExit noMessage notPlaced improperReceiver noTarget tooEarly sendFirst
-tick-number here c = refl
-
--- the rules from 8 to 12
-pub first-number :
-    (fault code n : ℕ) (c : Config) (k : Command)
-    → firstNumber (firstRules fault code n c k)
-    ≡ cond (eqb fault 8) 8
-    (cond (not (isCode code)) 9
-    (cond (eqb fault 10) 10
-    (cond (names k && leb n (subjectOf k)) 11
-    (cond (names k && not (eqb (at c (subjectOf k) .mode) running)) 12
-    0))))
-unfolding firstNumber noSubject notRunning
-first-number fault code n c k = refl
-
--- of five tests with their numbers, none of which is 0, and what comes next
-abbrev five : Bool → Bool → Bool → Bool → Bool → ℕ → ℕ
-five a b c d e next = cond a 8 (cond b 9 (cond c 10 (cond d 11 (cond e 12 next))))
-
-past-five : (a b c d e : Bool) (next : ℕ) → five a b c d e next ≡ cond (eqb (five a b c d e 0) 0) next (five a b c d e 0)
-past-five true b c d e next = refl
-past-five false true c d e next = refl
-past-five false false true d e next = refl
-past-five false false false true e next = refl
-past-five false false false false true next = refl
-past-five false false false false false next = refl
-
--- where none of them holds, those of the command's kind decide
-pub turn-first :
-    (fault code n : ℕ) (here : State) (c : Config) (k : Command)
-    → firstNumber (turnRules fault code n here c k)
-    ≡ cond (eqb (firstNumber (firstRules fault code n c k)) 0)
-    (firstNumber (kindRules here c k))
-    (firstNumber (firstRules fault code n c k))
+-- a subject that is not there is refused with 11, whatever else is read
+pub number-absent : (n : ℕ) (here : State) (x : Subject) (improper : Bool) (k : Command) → 1 ≤ n → n ≤ subjectOf k
+    → firstNumber (rulesFor n here x improper k) ≡ 11
 unfolding firstNumber
-turn-first fault code n here c k =
-    past-five (eqb fault 8) (not (isCode code)) (eqb fault 10) (noSubject n k) (notRunning c k) (firstNumber (kindRules here c k))
+number-absent n here x improper (Do s e w) l h = rw (le-leb n s h)
+number-absent n here x improper (Reserve s) l h = rw (le-leb n s h)
+number-absent n here x improper (Deliver s) l h = rw (le-leb n s h)
+number-absent n here x improper (Take s e) l h = rw (le-leb n s h)
+number-absent n here x improper (Run s) l h = rw (le-leb n s h)
+number-absent n here x improper (Expire s) l h = rw (le-leb n s h)
+number-absent n here x improper (Cancel s) l h = rw (le-leb n s h)
+number-absent n here x improper Tick l h = absurd (omega (arith, l, h))
 
--- where none of them holds, a command that names a subject has a right code and names one that is there
-pub first-none : (fault code n : ℕ) (c : Config) (k : Command) {A : Type 0} → firstNumber (firstRules fault code n c k) ≡ 0
-    → (eqb fault 8 ≡ false → isCode code ≡ true → names k ≡ true → subjectOf k < n → A) → names k ≡ true → A
-unfolding ascends noSubject
-first-none fault code n c k none asks named =
-    let no = number-none (firstRules fault code n c k) refl none in
-    asks (no .none 0 (omega arith)) (not-false (isCode code) (no .none 1 (omega arith))) named
-    (leb-false n (subjectOf k) (rw named at (no .none 3 (omega arith))))
+-- where no rule holds the subject is there
+pub subject-below : (n : ℕ) (here : State) (x : Subject) (improper : Bool) (k : Command) → 1 ≤ n → NoRule (rulesFor n here x improper k) → subjectOf k < n
+subject-below n here x improper (Do s e w) l h = leb-false n s (h .none 0 (omega arith))
+subject-below n here x improper (Reserve s) l h = leb-false n s (h .none 0 (omega arith))
+subject-below n here x improper (Deliver s) l h = leb-false n s (h .none 0 (omega arith))
+subject-below n here x improper (Take s e) l h = leb-false n s (h .none 0 (omega arith))
+subject-below n here x improper (Run s) l h = leb-false n s (h .none 0 (omega arith))
+subject-below n here x improper (Expire s) l h = leb-false n s (h .none 0 (omega arith))
+subject-below n here x improper (Cancel s) l h = leb-false n s (h .none 0 (omega arith))
+subject-below n here x improper Tick l h = l
+
+-- whether a receiver ended improperly is read only where it is asked
+pub improper-read : (n : ℕ) (here : State) (x : Subject) (c : Config) (k : Command)
+    → rulesFor n here x (improperAmong (asksOf here k) c) k ≡ rulesFor n here x (someImproper here c) k
+unfolding improperAmong asksOf someImproper
+improper-read n here x c (Do s e w) = refl
+improper-read n here x c (Reserve s) = refl
+improper-read n here x c (Deliver s) = refl
+improper-read n here x c (Take s e) = refl
+improper-read n here x c (Run s) = refl
+improper-read n here x c (Expire s) = refl
+improper-read n here x c (Cancel s) = refl
+improper-read n here x c Tick = refl
+
+-- of no one
+pub improper-none : (c : Config) → improperAmong 0 c ≡ false
+unfolding improperAmong
+improper-none c = none-some (λ r. bit 0 r && eqb (at c r .mode) endedImproperly) mostSubjects (λ r _. rw (bit-zero r))

@@ -10,12 +10,14 @@ use lib.ListN.{length}
 use Rattle.sets.proofs.Tests.{choose}
 use Rattle.sets.proofs.Below.{length-table}
 use Rattle.model.specs.Sizes.{mostSubjects}
-use Rattle.pools.specs.Pools.{deliveredIn}
-use Rattle.configs.specs.Subjects.{asleep, endedProperly, at, eachSubject, entered, Held}
-use Rattle.configs.specs.declared.Config.{Config}
-use Rattle.configs.specs.declared.Subject.{Subject}
-use Rattle.configs.proofs.ValidLaws.{at-put-same, at-put-other, at-each, each-put, HeldSubject, held-put, held-each}
-use Rattle.engine.specs.Effects.{enters, started, deliveredAs}
+use Rattle.engine.specs.pools.Sizes.{mostEntries}
+use Rattle.engine.specs.pools.Pools.{deliveredIn}
+use Rattle.engine.specs.configs.Subjects.{asleep, endedProperly, at, eachSubject, entered, Held}
+use Rattle.engine.specs.declared.Config.{Config}
+use Rattle.engine.specs.declared.Subject.{Subject}
+use Rattle.engine.proofs.configs.ValidLaws.{at-put-same, at-put-other, at-each, each-put, HeldSubject, held-put, held-each}
+use Rattle.engine.specs.configs.Subjects.{enters}
+use Rattle.engine.specs.commands.Deliver.{started, deliveredAs}
 use Rattle.engine.proofs.KeptOne.{held-enter}
 
 module _ (f : ℕ → Subject → Subject) (c : Config) (s t : ℕ) (end : Bool) where
@@ -77,7 +79,7 @@ started-pool initial x =
     choose (λ (y : Subject). y .pool ≡ x .pool) (eqb (x .mode) asleep || eqb (x .mode) endedProperly) (λ _. refl) (λ _. refl)
 
 -- receiver or not
-pub delivered-pool : (receives : Bool) (initial s w : ℕ) (x : Subject) → deliveredAs receives initial s w x .pool ≡ deliveredIn s w (x .pool)
+pub delivered-pool : (receives : Bool) (initial s w : ℕ) (x : Subject) → deliveredAs receives initial s w x .pool ≡ deliveredIn mostEntries s w (x .pool)
 unfolding deliveredAs
 delivered-pool receives initial s w x =
-    choose (λ (y : Subject). y .pool ≡ deliveredIn s w (x .pool)) receives (λ _. started-pool initial _) (λ _. refl)
+    choose (λ (y : Subject). y .pool ≡ deliveredIn mostEntries s w (x .pool)) receives (λ _. started-pool initial _) (λ _. refl)

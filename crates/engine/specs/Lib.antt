@@ -1,9 +1,6 @@
-pub mod Commands
-pub mod Reserve
-pub mod Effects
-pub mod Queues
-pub mod InPlace
-pub mod Rules
-pub mod Exact
+pub mod pools
+pub mod configs
+pub mod commands
 pub mod Steps
 pub mod Tapes
+pub mod inner

@@ -1,27 +1,83 @@
-// The stepping: one command on a configuration, coded commands, and whole tapes of them.
-mod acts;
+// The stepping: pools, configurations, and what the commands do to them, one by one or a whole tape.
 mod commands;
-mod effects;
-mod marks;
-mod queues;
-mod reserving;
-mod rules;
-mod standings;
+mod configs;
+mod pools;
 mod steps;
 mod tapes;
-mod words;
 
-pub use configs::Answer;
-pub use configs::Config;
-pub use configs::Share;
-pub use configs::Stepped;
-pub use configs::fresh;
-pub use configs::is_valid;
-pub use configs::refusal;
-pub use configs::shared_out;
+pub use configs::answers::refusal;
+pub use configs::shares::shared_out;
+pub use configs::starts::fresh;
+pub use configs::valid::is_valid;
+use model::MOST_SUBJECTS;
+pub use steps::run;
 pub use steps::step;
 pub use steps::step_coded;
-pub use tapes::run;
+
+// Entries of a pool.
+pub const MOST_ENTRIES: usize = 16;
+
+// An entry: a message with its content, or a reservation, whose content is 0.
+pub struct Entry {
+    pub sender: u8,
+    pub typ: u8,
+    pub message: bool,
+    pub content: u32,
+}
+
+// A pool: its entries in order of arrival, unused places zero.
+pub struct Pool {
+    pub entries: [Entry; MOST_ENTRIES],
+    pub count: u8,
+}
+
+// What is taken out of a pool, and the pool without it.
+pub struct Taken {
+    pub content: u32,
+    pub pool: Pool,
+}
+
+// A subject at work. Mode 0 is asleep, 1 running, 2 ended properly, 3 ended improperly; closed has for each sender a mask of types.
+pub struct Subject {
+    pub mode: u8,
+    pub state: u8,
+    pub waited: u16,
+    pub word: u32,
+    pub mask: u16,
+    pub closed: [u32; MOST_SUBJECTS],
+    pub pool: Pool,
+}
+
+// All subjects at work; those that the model does not have are all zero.
+pub struct Config {
+    pub subjects: [Subject; MOST_SUBJECTS],
+}
+
+// What a call answers beside the configuration.
+pub enum Answer {
+    Done,
+    Reserved {
+        placed: u16,
+        improper: u16,
+        closed: u16,
+        full: u16,
+        missing: u8,
+    },
+    Refused(u8),
+}
+
+// The configuration beside the answer. A refused step hands back the configuration that went in.
+pub struct Stepped {
+    pub config: Config,
+    pub answer: Answer,
+}
+
+// The yes/no for a pool, or the refusal.
+pub enum Share {
+    Yes,
+    No,
+    NotAsked(u8),
+}
 
 // What the controller is told to do. Exits and words belong to the commands that use them.
 pub enum Command {
@@ -52,25 +108,10 @@ pub struct Places {
     pub full: u16,
 }
 
-// The configuration and the answers after some turns.
-pub struct Round {
-    pub config: Config,
+// A subject that a command has reached, and what the receivers have answered so far.
+pub struct Reached {
+    pub subject: Subject,
     pub places: Places,
-}
-
-// Where a subject stands: the numbers that most commands change.
-pub struct Standing {
-    pub mode: u8,
-    pub state: u8,
-    pub waited: u16,
-    pub word: u32,
-    pub mask: u16,
-}
-
-// The refusal of a command, and where its subject stands then.
-pub struct Acted {
-    pub number: u8,
-    pub stand: Standing,
 }
 
 // A command as it stood on the tape: its code, the subject that its line shows, and the command.

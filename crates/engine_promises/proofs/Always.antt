@@ -3,24 +3,25 @@ use mathlib.Core.Path.{_≡_}
 use mathlib.Core.Logic.{_≢_}
 use mathlib.Core.Bool.{true, not}
 use mathlib.Core.List.{List, [], _∷_}
-use Prim.Native.Nat.{ℕ, zero, suc}
+use Prim.Native.Nat.{ℕ}
 use Rattle.model.specs.Valid.{valid}
 use Rattle.model.specs.declared.Model.{Model}
-use Rattle.configs.specs.Answers.{refusalOf}
-use Rattle.configs.specs.Fresh.{freshConfig}
-use Rattle.configs.specs.Subjects.{Held}
-use Rattle.configs.specs.Valid.{configValid}
-use Rattle.configs.specs.declared.Config.{Config}
-use Rattle.configs.proofs.ValidLaws.{fresh-held, fresh-valid}
-use Rattle.engine.specs.Commands.{isCode, codeIn, commandIn}
-use Rattle.engine.specs.Exact.{rulesOf, codedRules}
-use Rattle.engine.specs.Steps.{acted, stepped, codedAs, codedStep}
-use Rattle.engine.specs.Tapes.{bytesAt, after}
+use Rattle.engine.specs.configs.Answers.{refusalOf}
+use Rattle.engine.specs.configs.Fresh.{freshConfig}
+use Rattle.engine.specs.configs.Subjects.{Held}
+use Rattle.engine.specs.configs.Valid.{configValid}
+use Rattle.engine.specs.declared.Config.{Config}
+use Rattle.engine.proofs.Cited.{fresh-held, fresh-valid}
+use Rattle.engine.specs.commands.Codes.{commandIn}
+use Rattle.engine.specs.commands.Exact.{rulesOf, codedRules}
+use Rattle.engine.specs.Steps.{acted, stepped, codedStep}
+use Rattle.engine.specs.Tapes.{after}
 use Rattle.engine.specs.declared.Command.{Command}
 use Rattle.engine.proofs.Kept.{kept}
 use Rattle.engine.proofs.RuleLaws.{guarded-keeps}
-use Rattle.engine_promises.specs.Runs.{runFrom}
+use Rattle.engine_promises.specs.Runs.{runFrom, commandsOf}
 use Rattle.engine_promises.proofs.Refusals.{same-after, effectOf, effect-fine, step-is, coded-is}
+use Rattle.engine_promises.proofs.TapeRuns.{tapes-are-runs}
 
 -- ---- refused: nothing changes
 
@@ -49,26 +50,10 @@ module _ (m : Model) (v : valid m ≡ true) where
   step-sane c k g =
       guarded-keeps (Sane m) c ((not (valid m), 8) ∷ (not (configValid m c), 10) ∷ []) (acted m c k) g (acted-sane c k g)
 
-  coded-sane : (c : Config) (b : List ℕ) → Sane m c → Sane m (codedStep m c b .config)
-  unfolding codedAs
-  coded-sane c b g =
-      guarded-keeps
-      (Sane m)
-      c
-      ((not (valid m), 8) ∷ (not (isCode (codeIn b)), 9) ∷ (not (configValid m c), 10) ∷ [])
-      (acted m c (commandIn b))
-      g
-      (acted-sane c (commandIn b) g)
-
   run-sane : (c : Config) (ks : List Command) → Sane m c → Sane m (runFrom m c ks)
   unfolding runFrom
   run-sane c [] g = g
   run-sane c (k ∷ ks) g = run-sane (stepped m c k .config) ks (step-sane c k g)
-
-  tape-sane : (c : Config) (tape : List ℕ) (i : ℕ) → Sane m c → Sane m (after m c tape i)
-  unfolding after
-  tape-sane c tape zero g = g
-  tape-sane c tape (suc i) g = coded-sane (after m c tape i) (bytesAt tape i) (tape-sane c tape i g)
 
   fresh-sane : Sane m (freshConfig m)
   fresh-sane = record { right = fresh-valid m v; held = fresh-held m }
@@ -95,7 +80,7 @@ module _ (m : Model) (v : valid m ≡ true) where
 
   -- after the first i commands of any tape
   pub always-valid-coded : (tape : List ℕ) (i : ℕ) → configValid m (after m (freshConfig m) tape i) ≡ true
-  always-valid-coded tape i = tape-sane m v (freshConfig m) tape i (fresh-sane m v) .right
+  always-valid-coded tape i = rw (tapes-are-runs .tape m (freshConfig m) tape i) (always-valid (commandsOf tape i))
 
   pub always-held-coded : (tape : List ℕ) (i : ℕ) → Held (after m (freshConfig m) tape i)
-  always-held-coded tape i = tape-sane m v (freshConfig m) tape i (fresh-sane m v) .held
+  always-held-coded tape i = rw (tapes-are-runs .tape m (freshConfig m) tape i) (always-held (commandsOf tape i))

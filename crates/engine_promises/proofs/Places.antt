@@ -19,15 +19,16 @@ use Rattle.model.specs.Sizes.{mostSubjects}
 use Rattle.model.specs.Valid.{noSubject}
 use Rattle.model.specs.declared.State.{State}
 use Rattle.model.specs.declared.Subject as model-subject
-use Rattle.pools.specs.Entries.{reservation}
-use Rattle.pools.specs.Pools.{held, appended}
-use Rattle.pools.proofs.AppendLaws.{held-appended, place-free}
-use Rattle.configs.specs.Subjects.{at, Held}
-use Rattle.configs.specs.Valid.{typeOf}
-use Rattle.configs.specs.declared.Answer.the-variants.{Reserved}
-use Rattle.configs.specs.declared.Config.{Config}
-use Rattle.configs.specs.declared.Subject.{Subject}
-use Rattle.engine.specs.Reserve.{begun, rounds, answered, reserving}
+use Rattle.engine.specs.pools.Sizes.{mostEntries}
+use Rattle.engine.specs.pools.Entries.{reservation}
+use Rattle.engine.specs.pools.Pools.{held, appended}
+use Rattle.engine.proofs.Cited.{held-appended, place-free}
+use Rattle.engine.specs.configs.Subjects.{at, Held}
+use Rattle.engine.specs.configs.Valid.{typeOf}
+use Rattle.engine.specs.declared.Answer.the-variants.{Reserved}
+use Rattle.engine.specs.declared.Config.{Config}
+use Rattle.engine.specs.declared.Subject.{Subject}
+use Rattle.engine.specs.commands.Reserve.{begun, rounds, answered, reserving}
 use Rattle.engine.specs.declared.Reply.{Reply}
 use Rattle.engine.specs.declared.Reply.the-variants.{Placed, Improper, Closed, Full}
 use Rattle.engine.proofs.RoundLaws.{isReply, reply-is, is-reply, maskFor, Narrow, placed-room, isAsked, replyIn, answers, round-after, noted-is, reserving-at}
@@ -71,22 +72,22 @@ no-length (x ∷ xs) h = absurd (omega arith)
 
 module _ (subjects : List model-subject.Subject) (here : State) (c : Config) (s : ℕ) where
   module _ (q : Reply) (r : ℕ) where
-    pub answers-is : answers subjects here c s q r ≡ true → Answered subjects here c s q r
+    answers-is : answers subjects here c s q r ≡ true → Answered subjects here c s q r
     unfolding answers isAsked replyIn
     answers-is h =
         let a = and-both (isAsked here (at c s .mask) r) (isReply q (replyIn subjects here c s r)) h in
         let b = and-both (bit (here .receivers) r) (not (bit (at c s .mask) r)) (a .left) in
         record { receiver = b .left; noPlace = not-true (bit (at c s .mask) r) (b .right); replies = reply-is q (replyIn subjects here c s r) (a .right) }
 
-    pub is-answers : Answered subjects here c s q r → answers subjects here c s q r ≡ true
+    is-answers : Answered subjects here c s q r → answers subjects here c s q r ≡ true
     unfolding answers isAsked replyIn
     is-answers h = and-true (and-true (h .receiver) (ap not (h .noPlace))) (is-reply q (replyIn subjects here c s r) (h .replies))
 
     -- the mask of an answer has the receivers without a place that give this answer
-    pub noted-only : r < mostSubjects → bit (maskFor q (rounds subjects here c s .places)) r ≡ true → Answered subjects here c s q r
+    noted-only : r < mostSubjects → bit (maskFor q (rounds subjects here c s .places)) r ≡ true → Answered subjects here c s q r
     noted-only l h = answers-is (sym (noted-is subjects here c s q r l) ∙ h)
 
-    pub noted-all : r < mostSubjects → Answered subjects here c s q r → bit (maskFor q (rounds subjects here c s .places)) r ≡ true
+    noted-all : r < mostSubjects → Answered subjects here c s q r → bit (maskFor q (rounds subjects here c s .places)) r ≡ true
     noted-all l h = noted-is subjects here c s q r l ∙ is-answers h
 
   -- who is placed: a receiver without a place whose reply, on the configuration before, is Placed
@@ -189,7 +190,7 @@ module _ (subjects : List model-subject.Subject) (here : State) (c : Config) (s 
     unfolding rounds folded
     none-asked h = rw (no-length (others mostSubjects (here .receivers) (at c s .mask)) h)
 
-    pub four-masks : FourMasks (here .receivers) (at c s .mask)
+    four-masks : FourMasks (here .receivers) (at c s .mask)
         (rounds subjects here c s .places .mask)
         (rounds subjects here c s .places .placed)
         (rounds subjects here c s .places .improper)
@@ -211,7 +212,7 @@ module _ (subjects : List model-subject.Subject) (here : State) (c : Config) (s 
         }
 
     -- the same of the answer
-    pub answer-masks : (placed improper closed full missing : ℕ) → reserving subjects here c s .answer ≡ Reserved placed improper closed full missing
+    answer-masks : (placed improper closed full missing : ℕ) → reserving subjects here c s .answer ≡ Reserved placed improper closed full missing
         → FourMasks (here .receivers) (at c s .mask) (rounds subjects here c s .places .mask) placed improper closed full missing
     unfolding reserving answered
     answer-masks placed improper closed full missing h =
@@ -237,7 +238,7 @@ module _ (subjects : List model-subject.Subject) (here : State) (c : Config) (s 
 
   module _ (h : Held c) (l : s < mostSubjects) where
     -- the mask of the sender, and of others
-    pub mask-after : at (reserving subjects here c s .config) s .mask ≡ rounds subjects here c s .places .mask
+    mask-after : at (reserving subjects here c s .config) s .mask ≡ rounds subjects here c s .places .mask
     mask-after = ap (λ (x : Subject). x .mask) (reserving-at subjects here c s (h .subjects) l s l) ∙ rw (eq-eqb s s refl)
 
     -- the answer, told by the masks of the sender before and after
@@ -252,7 +253,7 @@ module _ (subjects : List model-subject.Subject) (here : State) (c : Config) (s 
       mask-other d = ap (λ (x : Subject). x .mask) (reserving-at subjects here c s (h .subjects) l r j) ∙ rw (ne-eqb r s d)
 
       pool-is : at (reserving subjects here c s .config) r .pool
-          ≡ cond (bit (rounds subjects here c s .places .placed) r) (appended (at c r .pool) (reservation s (typeOf here))) (at c r .pool)
+          ≡ cond (bit (rounds subjects here c s .places .placed) r) (appended mostEntries (at c r .pool) (reservation s (typeOf here))) (at c r .pool)
       unfolding maskFor
       pool-is = rw (noted-is subjects here c s Placed r j) (ap (λ (x : Subject). x .pool) (reserving-at subjects here c s (h .subjects) l r j))
 
@@ -263,7 +264,7 @@ module _ (subjects : List model-subject.Subject) (here : State) (c : Config) (s 
           let a = placed-only r j e in
           let room = placed-room (getD subjects r noSubject) (at c r) s (typeOf here) (is-reply Placed _ (a .replies)) in
           ap held (pool-is ∙ rw e)
-          ∙ held-appended (at c r .pool) (reservation s (typeOf here)) (h .entries r j) (place-free (held (at c r .pool)) s (typeOf here) (getD subjects r noSubject) room)
+          ∙ held-appended mostEntries (at c r .pool) (reservation s (typeOf here))
 
       -- every other pool stays
       pub pool-other : bit (rounds subjects here c s .places .placed) r ≡ false → at (reserving subjects here c s .config) r .pool ≡ at c r .pool

@@ -13,16 +13,17 @@ use Rattle.model.specs.Sizes.{mostSubjects}
 use Rattle.model.specs.Valid.{noSubject, exitAt}
 use Rattle.model.specs.declared.State.{State}
 use Rattle.model.specs.declared.Subject as model-subject
-use Rattle.pools.specs.Entries.{blankEntry, reservedBy, delivered}
-use Rattle.pools.specs.Pools.{held, reservations, withdrawnFrom}
-use Rattle.pools.specs.declared.Entry.{Entry}
-use Rattle.pools.specs.declared.Pool.{Pool}
-use Rattle.pools.proofs.EntryLaws.{delivered-length, delivered-none, withdrawn-none}
-use Rattle.pools.proofs.PoolLaws.{held-delivered, held-withdrawn}
-use Rattle.configs.specs.Subjects.{at, withPool}
-use Rattle.configs.specs.declared.Config.{Config}
-use Rattle.configs.specs.declared.Subject.{Subject}
-use Rattle.engine.specs.Effects.{deliveredTo, delivering, withdrawing, leaving}
+use Rattle.engine.specs.pools.Sizes.{mostEntries}
+use Rattle.engine.specs.pools.Entries.{blankEntry, reservedBy, delivered}
+use Rattle.engine.specs.pools.Pools.{held, reservations, withdrawnFrom}
+use Rattle.engine.specs.declared.Entry.{Entry}
+use Rattle.engine.specs.declared.Pool.{Pool}
+use Rattle.engine.proofs.Cited.{delivered-length, withdrawn-none, held-delivered, held-withdrawn}
+use Rattle.engine.specs.configs.Subjects.{at, withPool}
+use Rattle.engine.specs.declared.Config.{Config}
+use Rattle.engine.specs.declared.Subject.{Subject}
+use Rattle.engine.specs.commands.Deliver.{deliveredTo, delivering}
+use Rattle.engine.specs.commands.Leave.{withdrawing, leaving}
 use Rattle.engine.proofs.SweepLaws.{sweep-other, sweep-pool, delivered-pool}
 use Rattle.engine_promises.specs.Moves.{AtItsPlace, OnlyPool}
 
@@ -51,14 +52,10 @@ module _ (subjects : List model-subject.Subject) (here : State) (end : Bool) (c 
       held
       (sweep-pool (deliveredTo subjects here s (at c s .word)) c s (exitAt here 0 .target) end r l
       ∙ delivered-pool (bit (here .receivers) r) (getD subjects r noSubject .initial) s (at c s .word) (at c r))
-      ∙ held-delivered s (at c r .pool) (at c s .word)
+      ∙ held-delivered mostEntries s (at c r .pool) (at c s .word)
 
   pub delivered-at-its-place : AtItsPlace s (at c s .word) (held (at c r .pool)) (held (at (delivering subjects here end c s) r .pool))
   delivered-at-its-place = rw held-delivering (places-kept s (at c s .word) (held (at c r .pool)))
-
-  -- and no reservation of s is left
-  pub delivering-none : (typ : ℕ) → reservations s typ (held (at (delivering subjects here end c s) r .pool)) ≡ 0
-  delivering-none typ = rw held-delivering (delivered-none s (at c s .word) (held (at c r .pool)) typ)
 
 -- ---- Expire and Cancel
 
@@ -78,7 +75,7 @@ module _ (t : ℕ) (end : Bool) (c : Config) (s r : ℕ) (l : r < mostSubjects) 
   pub leaving-withdraws : held (at (leaving t end c s) r .pool) ≡ passing (λ e. not (reservedBy s any e)) (held (at c r .pool))
   unfolding leaving withdrawing
   leaving-withdraws =
-      ap held (sweep-pool (λ _ x. withPool (withdrawnFrom s (x .pool)) x) c s t end r l) ∙ held-withdrawn s (at c r .pool)
+      ap held (sweep-pool (λ _ x. withPool (withdrawnFrom mostEntries s (x .pool)) x) c s t end r l) ∙ held-withdrawn mostEntries s (at c r .pool)
 
   -- so no pool has a reservation of s
   pub leaving-none : (typ : ℕ) → reservations s typ (held (at (leaving t end c s) r .pool)) ≡ 0
@@ -87,4 +84,4 @@ module _ (t : ℕ) (end : Bool) (c : Config) (s r : ℕ) (l : r < mostSubjects) 
   pub leaving-others : r ≢ s → OnlyPool (at c r) (at (leaving t end c s) r)
   unfolding leaving withdrawing
   leaving-others ne =
-      only-pool (withdrawnFrom s (at c r .pool)) (at c r) _ (sweep-other (λ _ x. withPool (withdrawnFrom s (x .pool)) x) c s t end r l ne)
+      only-pool (withdrawnFrom mostEntries s (at c r .pool)) (at c r) _ (sweep-other (λ _ x. withPool (withdrawnFrom mostEntries s (x .pool)) x) c s t end r l ne)

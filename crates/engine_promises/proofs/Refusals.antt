@@ -3,22 +3,22 @@ use mathlib.Core.Path.{_≡_, refl, sym, ap, _∙_}
 use mathlib.Core.Logic.{_≢_}
 use mathlib.Core.Bool.{Bool, true, false, not}
 use mathlib.Core.List.{List, [], _∷_}
-use Prim.Native.Nat.{ℕ, _<_}
-use native.Mathlib.Omega.{arith}
-use borrow.Author.Tests.{leb-false, eqb-true, not-false}
+use Prim.Native.Nat.{ℕ, suc, _<_}
+use borrow.Author.Tests.{not-false}
 use Rattle.model.specs.Valid.{valid}
 use Rattle.model.specs.declared.Model.{Model}
-use Rattle.configs.specs.Answers.{refusalOf}
-use Rattle.configs.specs.Subjects.{running, at, hereOf}
-use Rattle.configs.specs.Valid.{configValid}
-use Rattle.configs.specs.declared.Config.{Config}
-use Rattle.configs.specs.declared.Stepped.{Stepped}
-use Rattle.engine.specs.Commands.{names, subjectOf, isCode, codeIn, commandIn}
-use Rattle.engine.specs.Exact.{NoRule, rulesOf, codedRules}
-use Rattle.engine.specs.Rules.{noSubject, notRunning, wrongKind, noExit, noMessage, notPlaced, improperReceiver, noTarget, tooEarly, sendFirst, rules, guarded}
+use Rattle.engine.specs.configs.Answers.{refusalOf}
+use Rattle.engine.specs.configs.Subjects.{at, hereOf}
+use Rattle.engine.specs.configs.Valid.{configValid}
+use Rattle.engine.specs.declared.Config.{Config}
+use Rattle.engine.specs.declared.Stepped.{Stepped}
+use Rattle.engine.specs.commands.Codes.{subjectOf, isCode, codeIn, commandIn}
+use Rattle.engine.specs.commands.Exact.{holdsAt, NoRule, rulesOf, codedRules}
+use Rattle.engine.specs.commands.Rules.{someImproper, rules, guarded}
 use Rattle.engine.specs.Steps.{effect, acts, endsAt, acted, stepped, codedAs, codedStep}
 use Rattle.engine.specs.declared.Command.{Command}
-use Rattle.engine.proofs.RuleLaws.{ascends, guarded-append, first-refuses, none-refuses, refusal-number, refusal-exact, accepted-exact, effect-accepted}
+use Rattle.engine.proofs.Cited.{n-low}
+use Rattle.engine.proofs.RuleLaws.{ascends, guarded-append, first-refuses, none-refuses, none-holds, refusal-number, refusal-exact, accepted-exact, effect-accepted, rules-ascend, subject-below}
 use Rattle.engine_promises.specs.Exact.{ByRules}
 
 -- ---- any rules whose numbers ascend
@@ -56,7 +56,7 @@ module _ (m : Model) (c : Config) (k : Command) where
 
   rules-up : ascends 0 (rulesOf m c k) ≡ true
   unfolding ascends
-  rules-up = refl
+  rules-up = rules-ascend (m .n) (hereOf m c (subjectOf k)) (at c (subjectOf k)) (someImproper (hereOf m c (subjectOf k)) c) k
 
   pub step-exact : ByRules (rulesOf m c k) c (stepped m c k)
   step-exact = rw step-is (by-rules c (rulesOf m c k) (effectOf m c k) (effect-fine m c k) rules-up)
@@ -74,58 +74,39 @@ module _ (m : Model) (c : Config) (b : List ℕ) where
 
   coded-up : ascends 0 (codedRules m c b) ≡ true
   unfolding ascends
-  coded-up = refl
+  coded-up =
+      let k = commandIn b in
+      rules-ascend (m .n) (hereOf m c (subjectOf k)) (at c (subjectOf k)) (someImproper (hereOf m c (subjectOf k)) c) k
 
   pub coded-exact : ByRules (codedRules m c b) c (codedStep m c b)
   coded-exact = rw coded-is (by-rules c (codedRules m c b) (effectOf m c (commandIn b)) (effect-fine m c (commandIn b)) coded-up)
 
 -- ---- an accepted command
 
--- what an accepted command that names a subject tells
+-- what an accepted command tells: model and configuration are valid, its subject is there, and none of its rules holds
 pub record Accepted (m : Model) (c : Config) (k : Command) : Type 0 where
   pub model : valid m ≡ true
   pub config : configValid m c ≡ true
   pub there : subjectOf k < m .n
-  pub runs : at c (subjectOf k) .mode ≡ running
-  pub kind : wrongKind (hereOf m c (subjectOf k)) k ≡ false
-  pub exit : noExit (hereOf m c (subjectOf k)) k ≡ false
-  pub message : noMessage (hereOf m c (subjectOf k)) c k ≡ false
-  pub placed : notPlaced (hereOf m c (subjectOf k)) c k ≡ false
-  pub proper : improperReceiver (hereOf m c (subjectOf k)) c k ≡ false
-  pub target : noTarget (hereOf m c (subjectOf k)) k ≡ false
-  pub late : tooEarly (hereOf m c (subjectOf k)) c k ≡ false
-  pub unsent : sendFirst (hereOf m c (subjectOf k)) c k ≡ false
-
-named-there : (n : ℕ) (k : Command) → names k ≡ true → noSubject n k ≡ false → subjectOf k < n
-unfolding noSubject
-named-there n k a h = leb-false n (subjectOf k) (rw a at h)
-
-named-runs : (c : Config) (k : Command) → names k ≡ true → notRunning c k ≡ false → at c (subjectOf k) .mode ≡ running
-unfolding notRunning
-named-runs c k a h = eqb-true (at c (subjectOf k) .mode) running (not-false _ (rw a at h))
+  pub none : (j : ℕ) → holdsAt (rules (m .n) (hereOf m c (subjectOf k)) c k) j ≡ false
 
 module _ (m : Model) (c : Config) (k : Command) (fine : refusalOf (stepped m c k .answer) ≡ 0) where
   no-rule : NoRule (rulesOf m c k)
   no-rule = step-exact m c k .accepted .0 fine
 
   -- it gives its effect
-  pub accepted-is : stepped m c k ≡ effect (m .n) (m .subjects) (hereOf m c (subjectOf k)) (endsAt m c k) c k
+  pub accepted-is : stepped m c k ≡ effectOf m c k
   accepted-is = step-is m c k ∙ none-refuses c (rulesOf m c k) (effectOf m c k) no-rule
 
-  pub accepted-tells : names k ≡ true → Accepted m c k
-  accepted-tells a =
-      let f = no-rule in
+  pub accepted-tells : Accepted m c k
+  accepted-tells =
+      let each = none-holds (rulesOf m c k) no-rule in
+      let right = not-false (valid m) (each 0) in
       record {
-        model = not-false _ (f .none 0 (omega arith));
-        config = not-false _ (f .none 1 (omega arith));
-        there = named-there (m .n) k a (f .none 2 (omega arith));
-        runs = named-runs c k a (f .none 3 (omega arith));
-        kind = f .none 4 (omega arith);
-        exit = f .none 5 (omega arith);
-        message = f .none 6 (omega arith);
-        placed = f .none 7 (omega arith);
-        proper = f .none 8 (omega arith);
-        target = f .none 9 (omega arith);
-        late = f .none 10 (omega arith);
-        unsent = f .none 11 (omega arith);
+        model = right;
+        config = not-false (configValid m c) (each 1);
+        there =
+            subject-below (m .n) (hereOf m c (subjectOf k)) (at c (subjectOf k)) (someImproper (hereOf m c (subjectOf k)) c) k (n-low m right)
+            (record { none = λ j l. each (suc (suc j)) });
+        none = λ j. each (suc (suc j));
       }

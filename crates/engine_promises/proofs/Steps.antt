@@ -17,22 +17,21 @@ use Rattle.model.specs.Sizes.{mostSubjects}
 use Rattle.model.specs.Valid.{subjectAt, exitAt, valid}
 use Rattle.model.specs.declared.Model.{Model}
 use Rattle.model.specs.declared.State.{State}
-use Rattle.pools.specs.Entries.{blankEntry, isMessage}
-use Rattle.pools.specs.Pools.{held, firstMessage, takenAt}
-use Rattle.pools.specs.declared.Pool.{Pool}
-use Rattle.pools.proofs.PoolLaws.{held-taken}
-use Rattle.configs.specs.Answers.{refusalOf}
-use Rattle.configs.specs.Subjects.{isSend, at, hereOf, withWord, withPool, entered, Held}
-use Rattle.configs.specs.Valid.{typeOf, subjectRight, placesRight, configValid}
-use Rattle.configs.specs.declared.Answer.the-variants.{Reserved}
-use Rattle.configs.specs.declared.Config.{Config}
-use Rattle.configs.specs.declared.Stepped.{Stepped}
-use Rattle.configs.proofs.IndexFacts.{state-there}
-use Rattle.configs.proofs.ModelFacts.{n-high, subject-there, state-right}
-use Rattle.configs.proofs.ValidLaws.{at-put-same}
-use Rattle.engine.specs.Effects.{wantedAt, takingAt, taking, leaving}
-use Rattle.engine.specs.Reserve.{rounds, reserving}
-use Rattle.engine.specs.Rules.{wrongKind, isNothing, noMessage, notPlaced, improperReceiver, canDeliver, sendFirst}
+use Rattle.engine.specs.pools.Sizes.{mostEntries}
+use Rattle.engine.specs.pools.Entries.{blankEntry, isMessage}
+use Rattle.engine.specs.pools.Pools.{held, firstMessage, takenAt}
+use Rattle.engine.specs.declared.Pool.{Pool}
+use Rattle.engine.proofs.Cited.{held-taken, state-there, n-high, subject-there, state-right, at-put-same}
+use Rattle.engine.specs.configs.Answers.{refusalOf}
+use Rattle.engine.specs.configs.Subjects.{isSend, at, hereOf, withWord, withPool, entered, Held}
+use Rattle.engine.specs.configs.Valid.{typeOf, subjectRight, placesRight, configValid}
+use Rattle.engine.specs.declared.Answer.the-variants.{Reserved}
+use Rattle.engine.specs.declared.Config.{Config}
+use Rattle.engine.specs.declared.Stepped.{Stepped}
+use Rattle.engine.specs.commands.Take.{wantedAt, takingAt, taking}
+use Rattle.engine.specs.commands.Leave.{leaving}
+use Rattle.engine.specs.commands.Reserve.{rounds, reserving}
+use Rattle.engine.specs.commands.Rules.{isNothing, noMessage, someImproper, canDeliver}
 use Rattle.engine.specs.Steps.{effect, endsAt, stepped}
 use Rattle.engine.specs.declared.Command.the-variants.{Reserve, Deliver, Take, Expire, Cancel}
 use Rattle.engine_promises.specs.Moves.{Handed, AtItsPlace, Withdrawn}
@@ -51,7 +50,7 @@ state-below m c s v g l =
 
 -- the place that was found is that of the earliest message that matches
 handed-at : (sender typ : ℕ) (p : Pool) (i : ℕ) → firstMessage sender typ (held p) ≡ At i
-    → Handed sender typ (held p) (takenAt p i .content) (held (takenAt p i .pool))
+    → Handed sender typ (held p) (takenAt mostEntries p i .content) (held (takenAt mostEntries p i .pool))
 unfolding firstMessage takenAt isMessage
 handed-at sender typ p i h =
     let f = find-is (isMessage sender typ) (held p) blankEntry i h in
@@ -63,7 +62,7 @@ handed-at sender typ p i h =
       matching = b .right;
       earliest = f .before;
       content = refl;
-      others = held-taken p i;
+      others = held-taken mostEntries p i;
     }
 
 taking-hands : (here : State) (end : Bool) (c : Config) (s e : ℕ) → s < length (c .subjects) → isNothing (wantedAt here e (at c s)) ≡ false
@@ -74,7 +73,7 @@ taking-hands here end c s e l = go (wantedAt here e (at c s)) refl
     go : (f : Found) → wantedAt here e (at c s) ≡ f → isNothing f ≡ false
         → Handed (exitAt here e .sender) (exitAt here e .typ) (held (at c s .pool)) (at (takingAt f here end c s e) s .word) (held (at (takingAt f here end c s e) s .pool))
     go (At i) q _ =
-        rw (at-put-same c s (entered (exitAt here e .target) end (withWord (takenAt (at c s .pool) i .content) (withPool (takenAt (at c s .pool) i .pool) (at c s)))) l)
+        rw (at-put-same c s (entered (exitAt here e .target) end (withWord (takenAt mostEntries (at c s .pool) i .content) (withPool (takenAt mostEntries (at c s .pool) i .pool) (at c s)))) l)
         (handed-at (exitAt here e .sender) (exitAt here e .typ) (at c s .pool) i q)
     go Nothing q n = not-both refl n
 
@@ -88,10 +87,10 @@ module _ (m : Model) (c : Config) (s e : ℕ) where
       (held (at (stepped m c (Take s e) .config) s .pool))
   unfolding effect noMessage
   take-hands h fine =
-      let a = accepted-tells m c (Take s e) fine refl in
+      let a = accepted-tells m c (Take s e) fine in
       let l = subject-there m (a .model) s (a .there) in
       rw (accepted-is m c (Take s e) fine)
-      (taking-hands (hereOf m c s) (endsAt m c (Take s e)) c s e (omega (arith, h .subjects)) (a .message))
+      (taking-hands (hereOf m c s) (endsAt m c (Take s e)) c s e (omega (arith, h .subjects)) (a .none 4))
 
 -- ---- Deliver, Expire and Cancel
 
@@ -122,13 +121,14 @@ module _ (m : Model) (c : Config) (s : ℕ) where
 
   -- where a send can be delivered it does not expire: never both are accepted
   pub deliver-or-expire : refusalOf (stepped m c (Expire s) .answer) ≡ 0 → refusalOf (stepped m c (Deliver s) .answer) ≡ 0 → ⊥
-  unfolding wrongKind notPlaced improperReceiver sendFirst canDeliver
+  unfolding canDeliver
   deliver-or-expire expires delivers =
-      let a = accepted-tells m c (Expire s) expires refl in
-      let b = accepted-tells m c (Deliver s) delivers refl in
-      let sends = not-false (isSend (hereOf m c s .kind)) (b .kind) in
-      let can : canDeliver (hereOf m c s) c s ≡ true = and-true sends (and-true (ap not (b .placed)) (ap not (b .proper))) in
-      not-both can (a .unsent)
+      let a = accepted-tells m c (Expire s) expires in
+      let b = accepted-tells m c (Deliver s) delivers in
+      let sends = not-false (isSend (hereOf m c s .kind)) (b .none 2) in
+      let can : canDeliver (hereOf m c s) (at c s) (someImproper (hereOf m c s) c) ≡ true =
+      and-true sends (and-true (ap not (b .none 3)) (ap not (b .none 4))) in
+      not-both can (a .none 4)
 
 -- ---- Reserve
 
@@ -164,7 +164,7 @@ module _ (m : Model) (c : Config) (s : ℕ) where
     fine = ap refusalOf is
 
     told : Accepted m c (Reserve s)
-    told = accepted-tells m c (Reserve s) fine refl
+    told = accepted-tells m c (Reserve s) fine
 
     there : s < mostSubjects
     there = subject-there m (told .model) s (told .there)

@@ -5,10 +5,10 @@ use mathlib.Core.Bool.{Bool}
 use mathlib.Core.List.{List}
 use Prim.Native.Nat.{ℕ, _<_}
 use lib.ListN.{length}
-use Rattle.configs.specs.Answers.{refusalOf, refused}
-use Rattle.configs.specs.declared.Config.{Config}
-use Rattle.configs.specs.declared.Stepped.{Stepped}
-use Rattle.engine.specs.Exact.{numberAt, FirstRule, NoRule}
+use Rattle.engine.specs.configs.Answers.{refusalOf, refused}
+use Rattle.engine.specs.declared.Config.{Config}
+use Rattle.engine.specs.declared.Stepped.{Stepped}
+use Rattle.engine.specs.commands.Exact.{numberAt, FirstRule, NoRule}
 
 -- what is answered on c by these rules
 pub record ByRules (list : List (Bool × ℕ)) (c : Config) (answered : Stepped) : Type 0 where

@@ -1,69 +1,159 @@
--- Laws of bytes: a loop that fills the start of a buffer, and the eight bytes of a command.
-use mathlib.Core.Path.{_≡_, refl, sym, ap, _∙_}
-use mathlib.Core.List.{List, _++_, append-assoc}
-use Prim.Native.Nat.{ℕ, _+_, _-_, _≤_, _<_}
+-- Laws of bytes that are stored one after the other, and of the eight bytes of a command.
+use mathlib.Core.Path.{_≡_, refl, sym, ap, subst, _∙_}
+use mathlib.Core.List.{List, [], _∷_, _++_}
+use Prim.Native.Nat.{ℕ, zero, suc, _+_, _*_, _≤_, _<_}
+use native.Mathlib.Nat.{add-zero, add-suc, suc-add}
 use native.Mathlib.Numerals.{add-one}
 use native.Mathlib.Omega.{arith}
-use borrow.Author.Tests.{le-leb, lt-leb}
-use lib.ListN.{length, getD, set, take, drop, take-append-drop, List·getD-append}
-use lib.Seq.{drop-cons, drop-at, drop-drop, set-at, length-take-le, getD-take, getD-drop}
-use Rattle.sets.specs.Below.{tableFrom, table}
-use Rattle.sets.proofs.Below.{length-table, table-at, table-of, table-more, table-same, part-table}
-use Rattle.exported.specs.Bytes.{onto}
+use lib.ListN.{length, take, drop, set, length-append, length-set}
+use lib.Seq.{sets, length-sets, sets-eq, getD-drop}
+use Rattle.sets.proofs.Below.{table-same, part-table}
+use Rattle.model.specs.Valid.{subjectAt, stateAt, exitAt, rowAt}
+use Rattle.model.specs.declared.Model.{Model}
+use Rattle.model.specs.declared.State.{State}
+use Rattle.model.specs.declared.Subject as model-subject
+use Rattle.engine.specs.declared.Entry.{Entry}
+use Rattle.engine.specs.declared.Config.{Config}
+use Rattle.engine.specs.declared.Subject.{Subject}
+use Rattle.exported.specs.Bytes.{eachOf, onto, stored, configSize, entryBytes, marksBytes, entriesBytes, subjectBytes, configBytes, modelSize, rowBytes, ownBytes, exitBytes, stateBytes, modelBytes}
 use Rattle.exported.specs.Calls.{eightOf}
 
-module _ (f : ℕ → ℕ) (old : List ℕ) where
-  -- the buffer after j stores: f at the places below j, what stood there at the others
-  unfoldable pub begun : ℕ → List ℕ
-  begun j = table f j ++ drop j old
+-- ---- one store, and then others
 
-  pub begun-start : old ≡ begun 0
-  unfolding begun tableFrom
-  begun-start = refl
+-- a buffer keeps its length
+pub length-stored : (old : List ℕ) (p : ℕ) (bytes : List ℕ) → length (stored old p bytes) ≡ length old
+unfolding stored
+length-stored old p bytes = length-sets old p bytes
 
-  -- a store
-  pub begun-turn : (j : ℕ) (now : List ℕ) (x : ℕ) → j < length old → now ≡ begun j → x ≡ f j → set now j x ≡ begun (j + 1)
-  unfolding begun
-  begun-turn j now x l p q =
-      rw (p, drop-cons old j 0 l, set-at (table f j) (getD old j 0) _ x j (length-table f j), table-more f j, append-assoc, add-one, q)
+-- nothing is stored
+pub stored-none : (old : List ℕ) (p : ℕ) → old ≡ stored old p []
+unfolding stored
+stored-none old p = refl
 
-  -- the last store is done
-  pub begun-end : (n j : ℕ) → j ≤ n → n ≤ j → n ≤ length old → begun j ≡ onto (table f n) old
-  unfolding begun onto
-  begun-end n j l g h = let e : j ≡ n = omega arith in rw (e, length-table f n, le-leb n (length old) h)
+-- the stores of straight code: at p, p + 1, p + 2 and so on
+unfoldable pub chainedFrom : List ℕ → ℕ → ℕ → List ℕ → List ℕ
+chainedFrom old p k [] = old
+chainedFrom old p k (x ∷ xs) = chainedFrom (set old (p + k) x) p (suc k) xs
 
-  -- the buffer is too short
-  pub begun-short : (n : ℕ) → length old < n → old ≡ onto (table f n) old
-  unfolding onto
-  begun-short n h = rw (length-table f n, lt-leb n (length old) h)
+unfoldable pub chained : List ℕ → ℕ → List ℕ → List ℕ
+chained old p [] = old
+chained old p (x ∷ xs) = chainedFrom (set old p x) p 1 xs
 
-  -- a byte that is stored
-  pub begun-at : (j k : ℕ) → k < j → getD (begun j) k 0 ≡ f k
-  unfolding begun
-  begun-at j k h = List·getD-append (table f j) (drop j old) 0 k (rw (length-table f j) h) ∙ table-at f j k 0 h
+from-stored : (xs old : List ℕ) (p k : ℕ) → chainedFrom old p k xs ≡ sets old (p + k) xs
+unfolding chainedFrom
+from-stored [] old p k = refl
+from-stored (x ∷ xs) old p k =
+    from-stored xs (set old (p + k) x) p (suc k) ∙ ap (λ (q : ℕ). sets (set old (p + k) x) q xs) (add-suc p k)
 
-  -- j stores of what stands there already
-  pub begun-still : (j : ℕ) → j ≤ length old → ((k : ℕ) → k < j → f k ≡ getD old k 0) → old ≡ begun j
-  unfolding begun
-  begun-still j h e =
-      let front : table f j ≡ take j old = table-of f j 0 (take j old) (length-take-le j old h) (λ k l. e k l ∙ sym (getD-take j old k 0 l)) in
-      sym (take-append-drop j old) ∙ ap (λ (l : List ℕ). l ++ drop j old) (sym front)
+pub chained-stored : (old : List ℕ) (p : ℕ) (xs : List ℕ) → chained old p xs ≡ stored old p xs
+unfolding chained stored
+chained-stored old p [] = refl
+chained-stored old p (x ∷ xs) = from-stored xs (set old p x) p 1 ∙ ap (λ (q : ℕ). sets (set old p x) q xs) (add-one p)
 
--- all before place j left out in two steps
-past : (i j : ℕ) (l : List ℕ) → i ≤ j → drop j l ≡ drop (j - i) (drop i l)
-past i j l h =
-    let e : j ≡ i + (j - i) = omega arith in
-    ap (λ (k : ℕ). drop k l) e ∙ sym (drop-drop (j - i) i l)
+-- such stores keep the length
+from-length : (xs old : List ℕ) (p k : ℕ) → length (chainedFrom old p k xs) ≡ length old
+unfolding chainedFrom
+from-length [] old p k = refl
+from-length (x ∷ xs) old p k = from-length xs (set old (p + k) x) p (suc k) ∙ length-set old (p + k) x
 
--- a buffer in which i stores are done already, begun anew with the same bytes
-pub begun-on : (f g : ℕ → ℕ) (old : List ℕ) (i j : ℕ) (now : List ℕ) → i ≤ j → now ≡ begun f old i → ((k : ℕ) → k < j → g k ≡ f k) → begun g now j ≡ begun f old j
-unfolding begun
-begun-on f g old i j now h e s =
-    let same : drop i now ≡ drop i old = ap (drop i) e ∙ drop-at (table f i) (drop i old) i (length-table f i) in
-    let behind : drop j now ≡ drop j old = past i j now h ∙ ap (drop (j - i)) same ∙ sym (past i j old h) in
-    rw (table-same g f j s, behind)
+pub length-chained : (old : List ℕ) (p : ℕ) (xs : List ℕ) → length (chained old p xs) ≡ length old
+unfolding chained
+length-chained old p [] = refl
+length-chained old p (x ∷ xs) = from-length xs (set old p x) p 1 ∙ length-set old p x
 
--- the first eight bytes of what is left from place p on, where there are eight
-pub eight-rest : (p : ℕ) (l : List ℕ) → p + 8 ≤ length l → eightOf (take (length l - p) (drop p l)) ≡ take 8 (drop p l)
-eight-rest p l h =
-    table-same _ _ 8 (λ i k. getD-take (length l - p) (drop p l) i 0 (omega arith) ∙ getD-drop p l i 0) ∙ sym (part-table 8 p l 0 h)
+-- so that there is a place for the next
+pub in-chain : (old : List ℕ) (p : ℕ) (xs : List ℕ) (i : ℕ) → i < length old → i < length (chained old p xs)
+in-chain old p xs i h = subst (λ (n : ℕ). i < n) (sym (length-chained old p xs)) h
+
+sets-more : (xs ys old : List ℕ) (p : ℕ) → sets old p (xs ++ ys) ≡ sets (sets old p xs) (p + length xs) ys
+sets-more [] ys old p = ap (λ (q : ℕ). sets old q ys) (sym (add-zero p))
+sets-more (x ∷ xs) ys old p =
+    sets-more xs ys (set old p x) (suc p)
+    ∙ ap (λ (q : ℕ). sets (sets (set old p x) (suc p) xs) q ys) (suc-add p (length xs) ∙ sym (add-suc p (length xs)))
+
+-- after some bytes, those that come behind them
+pub stored-more : (old now next xs ys : List ℕ) (p q : ℕ) → now ≡ stored old p xs → next ≡ stored now q ys → q ≡ p + length xs
+    → next ≡ stored old p (xs ++ ys)
+unfolding stored
+stored-more old now next xs ys p q e f h =
+    f
+    ∙ ap (λ (l : List ℕ). sets l q ys) e
+    ∙ ap (λ (k : ℕ). sets (sets old p xs) k ys) h
+    ∙ sym (sets-more xs ys old p)
+
+-- the same bytes
+pub stored-same : (old now xs ys : List ℕ) (p : ℕ) → now ≡ stored old p xs → xs ≡ ys → now ≡ stored old p ys
+stored-same old now xs ys p e f = e ∙ ap (stored old p) f
+
+-- all of it at the start of a buffer with room for it
+pub stored-onto : (old bytes : List ℕ) → length bytes ≤ length old → stored old 0 bytes ≡ onto bytes old
+unfolding stored
+stored-onto old bytes h =
+    let e : 0 + length bytes ≡ length bytes = omega arith in
+    sets-eq bytes old 0 (omega arith) ∙ ap (λ (k : ℕ). bytes ++ drop k old) e
+
+-- ---- the same number of bytes for each
+
+module _ (f : ℕ → List ℕ) (size : ℕ) (each : (i : ℕ) → length (f i) ≡ size) where
+  pub length-each : (n : ℕ) → length (eachOf f n) ≡ size * n
+  unfolding eachOf
+  length-each zero = omega arith
+  length-each (suc n) = length-append (eachOf f n) (f n) ∙ omega (arith, length-each n, each n)
+
+  -- a loop that stores each: its start, a turn and its end
+  pub each-start : (old : List ℕ) (p : ℕ) → old ≡ stored old p (eachOf f 0)
+  unfolding eachOf
+  each-start old p = stored-none old p
+
+  pub each-turn : (old now next : List ℕ) (p q i : ℕ) → q ≡ p + size * i → now ≡ stored old p (eachOf f i) → next ≡ stored now q (f i)
+      → next ≡ stored old p (eachOf f (i + 1))
+  unfolding eachOf
+  each-turn old now next p q i h e g =
+      rw add-one (stored-more old now next (eachOf f i) (f i) p q e g (h ∙ ap (λ (k : ℕ). p + k) (sym (length-each i))))
+
+pub each-end : (f : ℕ → List ℕ) (old now : List ℕ) (p i n : ℕ) → i ≤ n → n ≤ i → now ≡ stored old p (eachOf f i) → now ≡ stored old p (eachOf f n)
+each-end f old now p i n l g e = let k : i ≡ n = omega arith in e ∙ ap (λ (j : ℕ). stored old p (eachOf f j)) k
+
+-- ---- how many bytes there are
+
+pub length-entry : (e : Entry) → length (entryBytes e) ≡ 7
+unfolding entryBytes
+length-entry e = refl
+
+pub length-marks : (closed : List ℕ) → length (marksBytes closed) ≡ 64
+unfolding marksBytes
+length-marks closed = length-each _ 4 (λ i. refl) 16
+
+pub length-entries : (entries : List Entry) → length (entriesBytes entries) ≡ 112
+unfolding entriesBytes
+length-entries entries = length-each _ 7 (λ i. length-entry _) 16
+
+pub length-subject : (x : Subject) → length (subjectBytes x) ≡ 187
+unfolding subjectBytes
+length-subject x =
+    omega (arith, length-append (marksBytes (x .closed)) (x .pool .count ∷ entriesBytes (x .pool .entries)), length-marks (x .closed), length-entries (x .pool .entries))
+
+pub length-config : (c : Config) → length (configBytes c) ≡ configSize
+unfolding configBytes
+length-config c = length-each _ 187 (λ s. length-subject _) 16
+
+pub length-own : (own : model-subject.Subject) → length (ownBytes own) ≡ 27
+unfolding ownBytes
+length-own own = omega (arith, length-each (λ k. rowBytes (rowAt own k)) 3 (λ k. refl) 8)
+
+pub length-state : (st : State) → length (stateBytes st) ≡ 34
+unfolding stateBytes
+length-state st = omega (arith, length-each (λ x. exitBytes (exitAt st x)) 3 (λ x. refl) 8)
+
+pub length-model : (m : Model) → length (modelBytes m) ≡ modelSize
+unfolding modelBytes
+length-model m =
+    let own : ℕ → List ℕ = λ s. ownBytes (subjectAt m s) in
+    let states : ℕ → List ℕ = λ p. stateBytes (stateAt m p) in
+    omega (arith, length-append (eachOf own 16) (eachOf states 512), length-each own 27 (λ s. length-own _) 16, length-each states 34 (λ p. length-state _) 512)
+
+-- ---- commands
+
+-- the first eight bytes from place p on, where there are eight
+pub eight-rest : (p : ℕ) (l : List ℕ) → p + 8 ≤ length l → eightOf (drop p l) ≡ take 8 (drop p l)
+eight-rest p l h = table-same _ _ 8 (λ i k. getD-drop p l i 0) ∙ sym (part-table 8 p l 0 h)

@@ -1,3 +1,6 @@
+pub mod BackLaws
 pub mod ByteLaws
+pub mod CallLaws
+pub mod EveryCall
 pub mod LoadLaws
 pub mod One

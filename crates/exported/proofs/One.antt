@@ -4,7 +4,7 @@ use borrow.Fn.Kinds.{Dens, resT, endedOf}
 use contract.Lifetimes.{Lfts}
 use denote.Triple.Clauses.{AtExit}
 use denote.Ref.{now}
-use Rattle.model_promises.proofs.One.{OneResult}
+use Rattle.model_promises.specs.One.{OneResult}
 use Rattle.exported.proofs.zs_load.Reads as load-call
 use Rattle.exported.proofs.zs_load.Kinds as load-kinds
 use Rattle.exported.proofs.zs_fresh.Reads as fresh-call

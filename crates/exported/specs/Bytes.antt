@@ -1,136 +1,142 @@
 -- Models and configurations as bytes, numbers of several bytes with the low byte first.
-use mathlib.Core.Bool.{not, cond}
-use mathlib.Core.List.{List, _++_}
-use Prim.Native.Nat.{ℕ, _+_, _-_, _*_, _/_, _%_, _^_}
-use lib.Dec.{eqb, ltb, leb}
+use mathlib.Core.Bool.{Bool, _&&_, not, cond}
+use mathlib.Core.List.{List, [], _∷_, _++_}
+use Prim.Native.Nat.{ℕ, zero, suc, _+_, _*_, _/_, _%_}
+use lib.Dec.{eqb, leb}
 use lib.ListN.{length, drop, getD}
-use Rattle.sets.specs.Below.{table}
-use Rattle.model.specs.Sizes.{mostSubjects}
+use lib.Seq.{sets}
+use Rattle.sets.specs.Below.{allBelow, table}
+use Rattle.model.specs.Sizes.{mostSubjects, mostRows, mostExits, statePlaces}
 use Rattle.model.specs.Valid.{subjectAt, stateAt, exitAt, rowAt}
 use Rattle.model.specs.declared.Exit.{Exit}
 use Rattle.model.specs.declared.Model.{Model}
 use Rattle.model.specs.declared.Row.{Row}
 use Rattle.model.specs.declared.State.{State}
 use Rattle.model.specs.declared.Subject as model-subject
-use Rattle.pools.specs.Entries.{blankEntry}
-use Rattle.pools.specs.Sizes.{mostEntries}
-use Rattle.pools.specs.declared.Entry.{Entry}
-use Rattle.pools.specs.declared.Pool.{Pool}
-use Rattle.configs.specs.Subjects.{at}
-use Rattle.configs.specs.declared.Config.{Config}
-use Rattle.configs.specs.declared.Subject.{Subject}
+use Rattle.engine.specs.pools.Entries.{blankEntry}
+use Rattle.engine.specs.pools.Sizes.{mostEntries}
+use Rattle.engine.specs.declared.Entry.{Entry}
+use Rattle.engine.specs.configs.Subjects.{at}
+use Rattle.engine.specs.declared.Config.{Config}
+use Rattle.engine.specs.declared.Subject.{Subject}
 
--- byte k of a number
-abbrev pub byteOf : ℕ → ℕ → ℕ
-byteOf k x = x / 256 ^ k % 256
+-- a number in two bytes, and in four
+abbrev pub shortBytes : ℕ → List ℕ
+shortBytes x = x % 256 ∷ x / 256 ∷ []
 
--- the bytes at the start of a buffer, what is behind them unchanged; a buffer that is too short stays as it is
-unfoldable pub onto : List ℕ → List ℕ → List ℕ
-onto bytes old = cond (leb (length bytes) (length old)) (bytes ++ drop (length bytes) old) old
+abbrev pub wordBytes : ℕ → List ℕ
+wordBytes x = shortBytes (x % 65536) ++ shortBytes (x / 65536)
+
+-- f 0, f 1, .. f (n - 1), one behind the other
+unfoldable pub eachOf : (ℕ → List ℕ) → ℕ → List ℕ
+eachOf f zero = []
+eachOf f (suc n) = eachOf f n ++ f n
+
+-- the bytes at the start of a buffer, what is behind them unchanged
+abbrev pub onto : List ℕ → List ℕ → List ℕ
+onto bytes old = bytes ++ drop (length bytes) old
+
+-- the buffer with the bytes from place p on
+unfoldable pub stored : List ℕ → ℕ → List ℕ → List ℕ
+stored old p bytes = sets old p bytes
 
 -- ---- a configuration: 187 bytes a subject
-
-abbrev pub subjectSize : ℕ
-subjectSize = 187
 
 abbrev pub configSize : ℕ
 configSize = 2992
 
--- an entry's seven: sender, type, whether it is a message, content
-unfoldable pub entryByte : Entry → ℕ → ℕ
-entryByte e f =
-    cond (eqb f 0) (e .sender)
-    (cond (eqb f 1) (e .typ)
-    (cond (eqb f 2) (cond (e .message) 1 0)
-    (byteOf (f - 3) (e .content))))
+-- sender, type, whether it is a message, content
+unfoldable pub entryBytes : Entry → List ℕ
+entryBytes e = e .sender ∷ e .typ ∷ cond (e .message) 1 0 ∷ wordBytes (e .content)
 
--- a subject's: mode, state, waited, word, mask, marks of each sender, count, entries
-unfoldable pub subjectByte : Subject → ℕ → ℕ
-subjectByte x f =
-    cond (eqb f 0) (x .mode)
-    (cond (eqb f 1) (x .state)
-    (cond (ltb f 4) (byteOf (f - 2) (x .waited))
-    (cond (ltb f 8) (byteOf (f - 4) (x .word))
-    (cond (ltb f 10) (byteOf (f - 8) (x .mask))
-    (cond (ltb f 74) (byteOf ((f - 10) % 4) (getD (x .closed) ((f - 10) / 4) 0))
-    (cond (eqb f 74) (x .pool .count)
-    (entryByte (getD (x .pool .entries) ((f - 75) / 7) blankEntry) ((f - 75) % 7))))))))
+-- mode, state, waited, word, mask
+abbrev pub fieldBytes : Subject → List ℕ
+fieldBytes x = x .mode ∷ x .state ∷ (shortBytes (x .waited) ++ (wordBytes (x .word) ++ shortBytes (x .mask)))
+
+-- the marks of each sender
+unfoldable pub marksBytes : List ℕ → List ℕ
+marksBytes closed = eachOf (λ i. wordBytes (getD closed i 0)) mostSubjects
+
+unfoldable pub entriesBytes : List Entry → List ℕ
+entriesBytes entries = eachOf (λ i. entryBytes (getD entries i blankEntry)) mostEntries
+
+-- then the count, then the entries
+unfoldable pub subjectBytes : Subject → List ℕ
+subjectBytes x = fieldBytes x ++ (marksBytes (x .closed) ++ (x .pool .count ∷ entriesBytes (x .pool .entries)))
 
 unfoldable pub configBytes : Config → List ℕ
-configBytes c = table (λ j. subjectByte (at c (j / subjectSize)) (j % subjectSize)) configSize
+configBytes c = eachOf (λ s. subjectBytes (at c s)) mostSubjects
 
 -- ---- and back: past the end of the bytes there are zeros
 
-abbrev pub shortAt : List ℕ → ℕ → ℕ
-shortAt b p = getD b p 0 + 256 * getD b (p + 1) 0
+abbrev pub shortOf : List ℕ → ℕ
+shortOf b = getD b 0 0 + 256 * getD b 1 0
 
-abbrev pub wordAt : List ℕ → ℕ → ℕ
-wordAt b p = getD b p 0 + 256 * getD b (p + 1) 0 + 65536 * getD b (p + 2) 0 + 16777216 * getD b (p + 3) 0
+abbrev pub wordOf : List ℕ → ℕ
+wordOf b = shortOf b + 65536 * shortOf (drop 2 b)
 
--- any number but 0 says that it is a message
-abbrev pub entryFrom : List ℕ → ℕ → Entry
-entryFrom b p = record { sender = getD b p 0; typ = getD b (p + 1) 0; message = not (eqb (getD b (p + 2) 0) 0); content = wordAt b (p + 3) }
+unfoldable pub entryFrom : List ℕ → Entry
+entryFrom b = record { sender = getD b 0 0; typ = getD b 1 0; message = not (eqb (getD b 2 0) 0); content = wordOf (drop 3 b) }
 
-abbrev pub marksFrom : List ℕ → ℕ → List ℕ
-marksFrom b p = table (λ i. wordAt b (p + 4 * i)) mostSubjects
+unfoldable pub marksFrom : List ℕ → List ℕ
+marksFrom b = table (λ i. wordOf (drop (4 * i) b)) mostSubjects
 
--- its count, then its entries
-abbrev pub poolFrom : List ℕ → ℕ → Pool
-poolFrom b p = record { entries = table (λ i. entryFrom b (p + 1 + 7 * i)) mostEntries; count = getD b p 0 }
+unfoldable pub entriesFrom : List ℕ → List Entry
+entriesFrom b = table (λ i. entryFrom (drop (7 * i) b)) mostEntries
 
-unfoldable pub subjectFrom : List ℕ → ℕ → Subject
-subjectFrom b p =
+unfoldable pub subjectFrom : List ℕ → Subject
+subjectFrom b =
     record {
-      mode = getD b p 0;
-      state = getD b (p + 1) 0;
-      waited = shortAt b (p + 2);
-      word = wordAt b (p + 4);
-      mask = shortAt b (p + 8);
-      closed = marksFrom b (p + 10);
-      pool = poolFrom b (p + 74);
+      mode = getD b 0 0;
+      state = getD b 1 0;
+      waited = shortOf (drop 2 b);
+      word = wordOf (drop 4 b);
+      mask = shortOf (drop 8 b);
+      closed = marksFrom (drop 10 b);
+      pool = record { entries = entriesFrom (drop 75 b); count = getD b 74 0 };
     }
 
 unfoldable pub configFrom : List ℕ → Config
-configFrom b = record { subjects = table (λ s. subjectFrom b (subjectSize * s)) mostSubjects }
+configFrom b = record { subjects = table (λ s. subjectFrom (drop (187 * s) b)) mostSubjects }
+
+-- the byte that says whether entry j, that is entry j % 16 of subject j / 16, is a message
+abbrev pub flagPlace : ℕ → ℕ
+flagPlace j = 187 * (j / mostEntries) + (77 + 7 * (j % mostEntries))
+
+-- each such byte is 0 or 1
+unfoldable pub flagsRight : List ℕ → Bool
+flagsRight b = allBelow (λ j. leb (getD b (flagPlace j) 0) 1) 256
+
+-- the bytes of a configuration, and perhaps more behind them
+unfoldable pub isConfig : List ℕ → Bool
+isConfig b = leb configSize (length b) && flagsRight b
 
 -- ---- a model: n, the start mask, 27 bytes a subject, 34 a state
 
 abbrev pub modelSize : ℕ
 modelSize = 17843
 
-abbrev pub rowByte : Row → ℕ → ℕ
-rowByte w f = cond (eqb f 0) (w .sender) (cond (eqb f 1) (w .typ) (w .limit))
+abbrev pub rowBytes : Row → List ℕ
+rowBytes w = w .sender ∷ w .typ ∷ w .limit ∷ []
 
 -- states, initial state, rows, the rows
-unfoldable pub ownByte : model-subject.Subject → ℕ → ℕ
-ownByte own f =
-    cond (eqb f 0) (own .states)
-    (cond (eqb f 1) (own .initial)
-    (cond (eqb f 2) (own .rows)
-    (rowByte (rowAt own ((f - 3) / 3)) ((f - 3) % 3))))
+unfoldable pub ownBytes : model-subject.Subject → List ℕ
+ownBytes own = own .states ∷ own .initial ∷ own .rows ∷ eachOf (λ k. rowBytes (rowAt own k)) mostRows
 
-abbrev pub exitByte : Exit → ℕ → ℕ
-exitByte e f = cond (eqb f 0) (e .target) (cond (eqb f 1) (e .sender) (e .typ))
+abbrev pub exitBytes : Exit → List ℕ
+exitBytes e = e .target ∷ e .sender ∷ e .typ ∷ []
 
--- kind, exits, sender, type, duration, timeout and cancel target, receivers, the exits
-unfoldable pub stateByte : State → ℕ → ℕ
-stateByte st f =
-    cond (eqb f 0) (st .kind)
-    (cond (eqb f 1) (st .exits)
-    (cond (eqb f 2) (st .sender)
-    (cond (eqb f 3) (st .typ)
-    (cond (ltb f 6) (byteOf (f - 4) (st .after))
-    (cond (eqb f 6) (st .timeout)
-    (cond (eqb f 7) (st .cancel)
-    (cond (ltb f 10) (byteOf (f - 8) (st .receivers))
-    (exitByte (exitAt st ((f - 10) / 3)) ((f - 10) % 3)))))))))
+-- kind, exits, sender, type, duration, timeout and cancel target, receivers
+abbrev pub headBytes : State → List ℕ
+headBytes st =
+    st .kind ∷ st .exits ∷ st .sender ∷ st .typ ∷ (shortBytes (st .after) ++ (st .timeout ∷ st .cancel ∷ shortBytes (st .receivers)))
 
-unfoldable pub modelByte : Model → ℕ → ℕ
-modelByte m j =
-    cond (eqb j 0) (m .n)
-    (cond (ltb j 3) (byteOf (j - 1) (m .start))
-    (cond (ltb j 435) (ownByte (subjectAt m ((j - 3) / 27)) ((j - 3) % 27))
-    (stateByte (stateAt m ((j - 435) / 34)) ((j - 435) % 34))))
+-- then the exits
+unfoldable pub stateBytes : State → List ℕ
+stateBytes st = headBytes st ++ eachOf (λ x. exitBytes (exitAt st x)) mostExits
 
 unfoldable pub modelBytes : Model → List ℕ
-modelBytes m = table (modelByte m) modelSize
+modelBytes m =
+    m .n
+    ∷ (shortBytes (m .start)
+    ++ (eachOf (λ s. ownBytes (subjectAt m s)) mostSubjects ++ eachOf (λ p. stateBytes (stateAt m p)) statePlaces))

@@ -1,2 +1,4 @@
 pub mod Bytes
 pub mod Calls
+pub mod Laws
+pub mod Answers

@@ -1,85 +1,132 @@
 // Configurations as bytes, and back.
 ghost use mathlib.Core.Path.{_≡_};
-ghost use Prim.Native.Nat.{_+_, _<_, _^_};
-ghost use lib.ListN.{getD};
-ghost use Rattle.exported.specs.Bytes.{onto, entryByte, subjectByte, configBytes, entryFrom, marksFrom, poolFrom, subjectFrom, configFrom};
-ghost use Rattle.exported.specs.Calls.{answerBytes};
+ghost use mathlib.Core.List.{[], _∷_};
+ghost use Prim.Native.Nat.{_+_, _≤_};
+ghost use lib.ListN.{length};
+ghost use Rattle.exported.specs.Bytes.{stored, entryBytes, fieldBytes, marksBytes, entriesBytes, subjectBytes, configBytes, entryFrom, marksFrom, entriesFrom, subjectFrom, configFrom, flagsRight, isConfig};
+ghost use Rattle.exported.specs.Calls.{valueBytes, answerBytes};
 use super::numbers;
-use configs::Answer;
-use configs::Config;
-use configs::Subject;
+use engine::Answer;
+use engine::Config;
+use engine::Entry;
+use engine::MOST_ENTRIES;
+use engine::Pool;
+use engine::Subject;
 use model::MOST_SUBJECTS;
-use pools::Entry;
-use pools::MOST_ENTRIES;
-use pools::Pool;
 use sets::byte;
+use sets::rest;
 
 // Bytes of a subject, and of all.
 const SUBJECT: usize = 187;
 
-const CONFIG: usize = 2992;
+pub(crate) const CONFIG: usize = 2992;
 
-// Byte f of an entry.
-fn entry_byte(e: Entry, f: usize) -> u8
-    requires { ⌜ f < 7 ⌝ }
-    ensures { λ r. ⌜ r ≡ entryByte e f ⌝ }
+// An entry goes to the places from p on.
+fn put_entry(room: &mut [u8], p: usize, e: Entry)
+    requires { ⌜ p + 7 ≤ length (now room) ⌝ }
+    ensures { λ _. ⌜ now (room .exit) ≡ stored (now (room .entry)) p (entryBytes e) ⌝ }
 {
-    match f {
-        0 => e.sender,
-        1 => e.typ,
-        2 => { if e.message { 1 } else { 0 } }
-        _ => numbers::word_byte(e.content, f - 3),
+    let low = e.content % 65536;
+    let high = e.content / 65536;
+    let message = numbers::flag(e.message);
+    room[p] = e.sender;
+    room[p + 1] = e.typ;
+    room[p + 2] = message;
+    room[p + 3] = (low % 256) as u8;
+    room[p + 4] = (low / 256) as u8;
+    room[p + 5] = (high % 256) as u8;
+    room[p + 6] = (high / 256) as u8;
+}
+
+// All entries of a pool.
+fn put_entries(room: &mut [u8], p: usize, entries: [Entry; MOST_ENTRIES])
+    requires { ⌜ p + 112 ≤ length (now room) ⌝ }
+    ensures { λ _. ⌜ now (room .exit) ≡ stored (now (room .entry)) p (entriesBytes entries) ⌝ }
+{
+    let mut i: usize = 0;
+    while i < MOST_ENTRIES {
+        put_entry(room, p + 7 * i, entries[i]);
+        i += 1;
     }
 }
 
-// Byte f of a subject.
-fn subject_byte(x: Subject, f: usize) -> u8
-    requires { ⌜ f < 187 ⌝ }
-    ensures { λ r. ⌜ r ≡ subjectByte x f ⌝ }
+// The marks of each sender.
+fn put_marks(room: &mut [u8], p: usize, closed: [u32; MOST_SUBJECTS])
+    requires { ⌜ p + 64 ≤ length (now room) ⌝ }
+    ensures { λ _. ⌜ now (room .exit) ≡ stored (now (room .entry)) p (marksBytes closed) ⌝ }
 {
-    if f == 0 {
-        return x.mode;
+    let mut i: usize = 0;
+    while i < MOST_SUBJECTS {
+        numbers::put_word(room, p + 4 * i, closed[i]);
+        i += 1;
     }
-    if f == 1 {
-        return x.state;
-    }
-    if f < 4 {
-        return numbers::short_byte(x.waited, f - 2);
-    }
-    if f < 8 {
-        return numbers::word_byte(x.word, f - 4);
-    }
-    if f < 10 {
-        return numbers::short_byte(x.mask, f - 8);
-    }
-    if f < 74 {
-        return numbers::word_byte(x.closed[(f - 10) / 4], (f - 10) % 4);
-    }
-    let p = x.pool;
-    if f == 74 {
-        return p.count;
-    }
-    entry_byte(p.entries[(f - 75) / 7], (f - 75) % 7)
 }
 
-// The bytes of a configuration go to the start of the buffer.
+// The fields of a subject before its marks.
+fn put_fields(room: &mut [u8], p: usize, x: Subject)
+    requires { ⌜ p + 10 ≤ length (now room) ⌝ }
+    ensures { λ _. ⌜ now (room .exit) ≡ stored (now (room .entry)) p (fieldBytes x) ⌝ }
+{
+    let low = x.word % 65536;
+    let high = x.word / 65536;
+    room[p] = x.mode;
+    room[p + 1] = x.state;
+    room[p + 2] = (x.waited % 256) as u8;
+    room[p + 3] = (x.waited / 256) as u8;
+    room[p + 4] = (low % 256) as u8;
+    room[p + 5] = (low / 256) as u8;
+    room[p + 6] = (high % 256) as u8;
+    room[p + 7] = (high / 256) as u8;
+    room[p + 8] = (x.mask % 256) as u8;
+    room[p + 9] = (x.mask / 256) as u8;
+}
+
+// A subject goes to the places from p on.
+fn put_subject(room: &mut [u8], p: usize, x: Subject)
+    requires { ⌜ p + 187 ≤ length (now room) ⌝ }
+    ensures { λ _. ⌜ now (room .exit) ≡ stored (now (room .entry)) p (subjectBytes x) ⌝ }
+{
+    let closed = x.closed;
+    let pool = x.pool;
+    let entries = pool.entries;
+    put_fields(room, p, x);
+    put_marks(room, p + 10, closed);
+    room[p + 74] = pool.count;
+    put_entries(room, p + 75, entries);
+}
+
+// A configuration goes to the start of the buffer.
 pub(crate) fn put_config(c: Config, room: &mut [u8])
-    ensures { λ _. ⌜ now (room .exit) ≡ onto (configBytes c) (now (room .entry)) ⌝ }
+    requires { ⌜ 2992 ≤ length (now room) ⌝ }
+    ensures { λ _. ⌜ now (room .exit) ≡ stored (now (room .entry)) 0 (configBytes c) ⌝ }
 {
-    if room.len() < CONFIG {
-        return;
-    }
-    let mut j: usize = 0;
-    while j < CONFIG {
-        room[j] = subject_byte(c.subjects[j / SUBJECT], j % SUBJECT);
-        j += 1;
+    let mut s: usize = 0;
+    while s < MOST_SUBJECTS {
+        put_subject(room, SUBJECT * s, c.subjects[s]);
+        s += 1;
     }
 }
 
-// Byte i of an answer: the four masks, two bytes each, and the missing count.
-fn value_byte(answer: Answer, i: usize) -> u8
-    requires { ⌜ i < 9 ⌝ }
-    ensures { λ r. ⌜ r ≡ getD (answerBytes answer) i 0 ⌝ }
+// Four masks and the missing count go to the start of the buffer.
+fn put_numbers(room: &mut [u8], placed: u16, improper: u16, closed: u16, full: u16, missing: u8)
+    requires { ⌜ 9 ≤ length (now room) ⌝ }
+    ensures { λ _. ⌜ now (room .exit) ≡ stored (now (room .entry)) 0 (valueBytes (placed ∷ improper ∷ closed ∷ full ∷ missing ∷ [])) ⌝ }
+{
+    room[0] = (placed % 256) as u8;
+    room[1] = (placed / 256) as u8;
+    room[2] = (improper % 256) as u8;
+    room[3] = (improper / 256) as u8;
+    room[4] = (closed % 256) as u8;
+    room[5] = (closed / 256) as u8;
+    room[6] = (full % 256) as u8;
+    room[7] = (full / 256) as u8;
+    room[8] = missing;
+}
+
+// The values of an answer.
+pub(crate) fn put_values(answer: Answer, room: &mut [u8])
+    requires { ⌜ 9 ≤ length (now room) ⌝ }
+    ensures { λ _. ⌜ now (room .exit) ≡ stored (now (room .entry)) 0 (answerBytes answer) ⌝ }
 {
     match answer {
         Answer::Reserved {
@@ -88,49 +135,27 @@ fn value_byte(answer: Answer, i: usize) -> u8
             closed,
             full,
             missing,
-        } => match i / 2 {
-            0 => numbers::short_byte(placed, i % 2),
-            1 => numbers::short_byte(improper, i % 2),
-            2 => numbers::short_byte(closed, i % 2),
-            3 => numbers::short_byte(full, i % 2),
-            _ => missing,
-        },
-        Answer::Done => 0,
-        Answer::Refused(_) => 0,
+        } => put_numbers(room, placed, improper, closed, full, missing),
+        Answer::Done => put_numbers(room, 0, 0, 0, 0, 0),
+        Answer::Refused(_) => put_numbers(room, 0, 0, 0, 0, 0),
     }
 }
 
-// The bytes of an answer go to the start of the buffer.
-pub(crate) fn put_values(answer: Answer, room: &mut [u8])
-    ensures { λ _. ⌜ now (room .exit) ≡ onto (answerBytes answer) (now (room .entry)) ⌝ }
-{
-    if room.len() < 9 {
-        return;
-    }
-    let mut i: usize = 0;
-    while i < 9 {
-        room[i] = value_byte(answer, i);
-        i += 1;
-    }
-}
-
-// The entry from place p on.
-fn entry_from(b: &[u8], p: usize) -> Entry
-    requires { ⌜ p + 7 < 2 ^ 32 ⌝ }
-    ensures { λ r. ⌜ r ≡ entryFrom (now (b .entry)) p ⌝ }
+// The entry in some bytes.
+fn entry_from(b: &[u8]) -> Entry
+    ensures { λ r. ⌜ r ≡ entryFrom (now (b .entry)) ⌝ }
 {
     Entry {
-        sender: byte(b, p),
-        typ: byte(b, p + 1),
-        message: byte(b, p + 2) != 0,
-        content: numbers::word_at(b, p + 3),
+        sender: byte(b, 0),
+        typ: byte(b, 1),
+        message: byte(b, 2) != 0,
+        content: numbers::word_of(rest(b, 3)),
     }
 }
 
-// The pool from place p on: its count, then its entries.
-fn pool_from(b: &[u8], p: usize) -> Pool
-    requires { ⌜ p + 113 < 2 ^ 32 ⌝ }
-    ensures { λ r. ⌜ r ≡ poolFrom (now (b .entry)) p ⌝ }
+// The entries of a pool.
+fn entries_from(b: &[u8]) -> [Entry; MOST_ENTRIES]
+    ensures { λ r. ⌜ r ≡ entriesFrom (now (b .entry)) ⌝ }
 {
     let none = Entry {
         sender: 0,
@@ -141,42 +166,43 @@ fn pool_from(b: &[u8], p: usize) -> Pool
     let mut entries = [none; MOST_ENTRIES];
     let mut i: usize = 0;
     while i < MOST_ENTRIES {
-        entries[i] = entry_from(b, p + 1 + 7 * i);
+        entries[i] = entry_from(rest(b, 7 * i));
         i += 1;
     }
-    Pool {
-        entries: entries,
-        count: byte(b, p),
-    }
+    entries
 }
 
-// The marks from place p on.
-fn marks_from(b: &[u8], p: usize) -> [u32; MOST_SUBJECTS]
-    requires { ⌜ p + 64 < 2 ^ 32 ⌝ }
-    ensures { λ r. ⌜ r ≡ marksFrom (now (b .entry)) p ⌝ }
+// The marks of each sender.
+fn marks_from(b: &[u8]) -> [u32; MOST_SUBJECTS]
+    ensures { λ r. ⌜ r ≡ marksFrom (now (b .entry)) ⌝ }
 {
     let mut marks = [0u32; MOST_SUBJECTS];
     let mut i: usize = 0;
     while i < MOST_SUBJECTS {
-        marks[i] = numbers::word_at(b, p + 4 * i);
+        marks[i] = numbers::word_of(rest(b, 4 * i));
         i += 1;
     }
     marks
 }
 
-// The subject from place p on.
-fn subject_from(b: &[u8], p: usize) -> Subject
-    requires { ⌜ p + 187 < 2 ^ 32 ⌝ }
-    ensures { λ r. ⌜ r ≡ subjectFrom (now (b .entry)) p ⌝ }
+// The subject in some bytes.
+fn subject_from(b: &[u8]) -> Subject
+    ensures { λ r. ⌜ r ≡ subjectFrom (now (b .entry)) ⌝ }
 {
+    let closed = marks_from(rest(b, 10));
+    let entries = entries_from(rest(b, 75));
+    let pool = Pool {
+        entries: entries,
+        count: byte(b, 74),
+    };
     Subject {
-        mode: byte(b, p),
-        state: byte(b, p + 1),
-        waited: numbers::short_at(b, p + 2),
-        word: numbers::word_at(b, p + 4),
-        mask: numbers::short_at(b, p + 8),
-        closed: marks_from(b, p + 10),
-        pool: pool_from(b, p + 74),
+        mode: byte(b, 0),
+        state: byte(b, 1),
+        waited: numbers::short_of(rest(b, 2)),
+        word: numbers::word_of(rest(b, 4)),
+        mask: numbers::short_of(rest(b, 8)),
+        closed: closed,
+        pool: pool,
     }
 }
 
@@ -184,11 +210,33 @@ fn subject_from(b: &[u8], p: usize) -> Subject
 pub(crate) fn config_from(b: &[u8]) -> Config
     ensures { λ r. ⌜ r ≡ configFrom (now (b .entry)) ⌝ }
 {
-    let mut subjects = [subject_from(b, 0); MOST_SUBJECTS];
+    let mut subjects = [subject_from(b); MOST_SUBJECTS];
     let mut s: usize = 0;
     while s < MOST_SUBJECTS {
-        subjects[s] = subject_from(b, SUBJECT * s);
+        subjects[s] = subject_from(rest(b, SUBJECT * s));
         s += 1;
     }
     Config { subjects: subjects }
+}
+
+// Each byte that says whether an entry is a message is 0 or 1.
+fn flags_right(b: &[u8]) -> bool
+    ensures { λ r. ⌜ r ≡ flagsRight (now (b .entry)) ⌝ }
+{
+    let mut j: usize = 0;
+    while j < 256 {
+        let place = SUBJECT * (j / MOST_ENTRIES) + (77 + 7 * (j % MOST_ENTRIES));
+        if 1 < byte(b, place) {
+            return false;
+        }
+        j += 1;
+    }
+    true
+}
+
+// The bytes are a configuration's.
+pub(crate) fn is_config(b: &[u8]) -> bool
+    ensures { λ r. ⌜ r ≡ isConfig (now (b .entry)) ⌝ }
+{
+    sets::both(CONFIG <= b.len(), flags_right(b))
 }

@@ -1,88 +1,107 @@
 // Models as bytes.
 ghost use mathlib.Core.Path.{_≡_};
-ghost use Prim.Native.Nat.{_<_};
-ghost use Rattle.exported.specs.Bytes.{onto, rowByte, ownByte, exitByte, stateByte, modelBytes};
-use super::numbers;
-use model::Exit;
+ghost use Prim.Native.Nat.{_+_, _≤_};
+ghost use lib.ListN.{length};
+ghost use Rattle.model.specs.Sizes.{mostSubjects, statePlaces};
+ghost use Rattle.model.specs.Valid.{subjectAt, stateAt};
+ghost use Rattle.exported.specs.Bytes.{eachOf, stored, ownBytes, headBytes, stateBytes, modelBytes};
+use model::MOST_EXITS;
+use model::MOST_ROWS;
+use model::MOST_SUBJECTS;
 use model::Model;
-use model::Row;
+use model::STATE_PLACES;
 use model::State;
 use model::Subject;
 
 // Bytes of a model.
-const MODEL: usize = 17843;
+pub(crate) const MODEL: usize = 17843;
 
-// Byte f of a limit row.
-fn row_byte(w: Row, f: usize) -> u8
-    ensures { λ r. ⌜ r ≡ rowByte w f ⌝ }
+// A subject goes to the places from p on.
+fn put_own(room: &mut [u8], p: usize, own: Subject)
+    requires { ⌜ p + 27 ≤ length (now room) ⌝ }
+    ensures { λ _. ⌜ now (room .exit) ≡ stored (now (room .entry)) p (ownBytes own) ⌝ }
 {
-    match f {
-        0 => w.sender,
-        1 => w.typ,
-        _ => w.limit,
+    room[p] = own.states;
+    room[p + 1] = own.initial;
+    room[p + 2] = own.rows;
+    let mut k: usize = 0;
+    while k < MOST_ROWS {
+        let w = own.row[k];
+        let q = p + 3 + 3 * k;
+        room[q] = w.sender;
+        room[q + 1] = w.typ;
+        room[q + 2] = w.limit;
+        k += 1;
     }
 }
 
-// Byte f of a subject.
-fn own_byte(own: Subject, f: usize) -> u8
-    requires { ⌜ f < 27 ⌝ }
-    ensures { λ r. ⌜ r ≡ ownByte own f ⌝ }
+// All subjects of a model.
+fn put_subjects(room: &mut [u8], m: Model)
+    requires { ⌜ 17843 ≤ length (now room) ⌝ }
+    ensures { λ _. ⌜ now (room .exit) ≡ stored (now (room .entry)) 3 (eachOf (λ s. ownBytes (subjectAt m s)) mostSubjects) ⌝ }
 {
-    match f {
-        0 => own.states,
-        1 => own.initial,
-        2 => own.rows,
-        _ => row_byte(own.row[(f - 3) / 3], (f - 3) % 3),
+    let mut s: usize = 0;
+    while s < MOST_SUBJECTS {
+        put_own(room, 3 + 27 * s, m.subjects[s]);
+        s += 1;
     }
 }
 
-// Byte f of an exit.
-fn exit_byte(e: Exit, f: usize) -> u8
-    ensures { λ r. ⌜ r ≡ exitByte e f ⌝ }
+// The fields of a state before its exits.
+fn put_head(room: &mut [u8], p: usize, st: State)
+    requires { ⌜ p + 34 ≤ length (now room) ⌝ }
+    ensures { λ _. ⌜ now (room .exit) ≡ stored (now (room .entry)) p (headBytes st) ⌝ }
 {
-    match f {
-        0 => e.target,
-        1 => e.sender,
-        _ => e.typ,
+    room[p] = st.kind;
+    room[p + 1] = st.exits;
+    room[p + 2] = st.sender;
+    room[p + 3] = st.typ;
+    room[p + 4] = (st.after % 256) as u8;
+    room[p + 5] = (st.after / 256) as u8;
+    room[p + 6] = st.timeout;
+    room[p + 7] = st.cancel;
+    room[p + 8] = (st.receivers % 256) as u8;
+    room[p + 9] = (st.receivers / 256) as u8;
+}
+
+// A state with its exits.
+fn put_state(room: &mut [u8], p: usize, st: State)
+    requires { ⌜ p + 34 ≤ length (now room) ⌝ }
+    ensures { λ _. ⌜ now (room .exit) ≡ stored (now (room .entry)) p (stateBytes st) ⌝ }
+{
+    put_head(room, p, st);
+    let mut x: usize = 0;
+    while x < MOST_EXITS {
+        let e = st.exit[x];
+        let q = p + 10 + 3 * x;
+        room[q] = e.target;
+        room[q + 1] = e.sender;
+        room[q + 2] = e.typ;
+        x += 1;
     }
 }
 
-// Byte f of a state.
-fn state_byte(st: State, f: usize) -> u8
-    requires { ⌜ f < 34 ⌝ }
-    ensures { λ r. ⌜ r ≡ stateByte st f ⌝ }
+// All states of a model, each with its exits.
+fn put_states(room: &mut [u8], m: Model)
+    requires { ⌜ 17843 ≤ length (now room) ⌝ }
+    ensures { λ _. ⌜ now (room .exit) ≡ stored (now (room .entry)) 435 (eachOf (λ p. stateBytes (stateAt m p)) statePlaces) ⌝ }
 {
-    match f {
-        0 => st.kind,
-        1 => st.exits,
-        2 => st.sender,
-        3 => st.typ,
-        4 | 5 => numbers::short_byte(st.after, f - 4),
-        6 => st.timeout,
-        7 => st.cancel,
-        8 | 9 => numbers::short_byte(st.receivers, f - 8),
-        _ => exit_byte(st.exit[(f - 10) / 3], (f - 10) % 3),
+    let mut i: usize = 0;
+    while i < STATE_PLACES {
+        let st = model::unpack(m.states[i], &m.targets, &m.senders, &m.types);
+        put_state(room, 435 + 34 * i, st);
+        i += 1;
     }
 }
 
-// The bytes of a model go to the start of the buffer.
+// A model goes to the start of the buffer.
 pub(crate) fn put_model(m: Model, room: &mut [u8])
-    ensures { λ _. ⌜ now (room .exit) ≡ onto (modelBytes m) (now (room .entry)) ⌝ }
+    requires { ⌜ 17843 ≤ length (now room) ⌝ }
+    ensures { λ _. ⌜ now (room .exit) ≡ stored (now (room .entry)) 0 (modelBytes m) ⌝ }
 {
-    if room.len() < MODEL {
-        return;
-    }
     room[0] = m.n;
-    room[1] = numbers::short_byte(m.start, 0);
-    room[2] = numbers::short_byte(m.start, 1);
-    let states = model::states(m);
-    let mut j: usize = 3;
-    while j < 435 {
-        room[j] = own_byte(m.subjects[(j - 3) / 27], (j - 3) % 27);
-        j += 1;
-    }
-    while j < MODEL {
-        room[j] = state_byte(states[(j - 435) / 34], (j - 435) % 34);
-        j += 1;
-    }
+    room[1] = (m.start % 256) as u8;
+    room[2] = (m.start / 256) as u8;
+    put_subjects(room, m);
+    put_states(room, m);
 }

@@ -1,52 +1,46 @@
 // Numbers of several bytes, low byte first.
 ghost use mathlib.Core.Path.{_≡_};
-ghost use Prim.Native.Nat.{_+_, _<_, _^_};
-ghost use Rattle.exported.specs.Bytes.{byteOf, shortAt, wordAt};
+ghost use mathlib.Core.Bool.{cond};
+ghost use Prim.Native.Nat.{_+_, _≤_};
+ghost use lib.ListN.{length};
+ghost use Rattle.exported.specs.Bytes.{wordBytes, stored, shortOf, wordOf};
 ghost use Rattle.exported.specs.Calls.{eightOf};
 use sets::byte;
 
-// Byte k of a number of two bytes.
-pub(crate) fn short_byte(x: u16, k: usize) -> u8
-    requires { ⌜ k < 2 ⌝ }
-    ensures { λ r. ⌜ r ≡ byteOf k x ⌝ }
+// 1 for true.
+pub(crate) fn flag(b: bool) -> u8
+    ensures { λ r. ⌜ r ≡ cond b 1 0 ⌝ }
 {
-    if k == 0 {
-        (x % 256) as u8
-    } else {
-        (x / 256) as u8
-    }
+    if b { 1 } else { 0 }
 }
 
-// Byte k of a number of four bytes.
-pub(crate) fn word_byte(x: u32, k: usize) -> u8
-    requires { ⌜ k < 4 ⌝ }
-    ensures { λ r. ⌜ r ≡ byteOf k x ⌝ }
+// A number of four bytes goes to the places from p on.
+pub(crate) fn put_word(room: &mut [u8], p: usize, x: u32)
+    requires { ⌜ p + 4 ≤ length (now room) ⌝ }
+    ensures { λ _. ⌜ now (room .exit) ≡ stored (now (room .entry)) p (wordBytes x) ⌝ }
 {
-    match k {
-        0 => (x % 256) as u8,
-        1 => (x / 256 % 256) as u8,
-        2 => (x / 65536 % 256) as u8,
-        _ => (x / 16777216) as u8,
-    }
+    let low = x % 65536;
+    let high = x / 65536;
+    room[p] = (low % 256) as u8;
+    room[p + 1] = (low / 256) as u8;
+    room[p + 2] = (high % 256) as u8;
+    room[p + 3] = (high / 256) as u8;
 }
 
-// Two bytes from place p on, zeros past the end.
-pub(crate) fn short_at(b: &[u8], p: usize) -> u16
-    requires { ⌜ p + 4 < 2 ^ 32 ⌝ }
-    ensures { λ r. ⌜ r ≡ shortAt (now (b .entry)) p ⌝ }
+// The first two bytes, zeros past the end.
+pub(crate) fn short_of(b: &[u8]) -> u16
+    ensures { λ r. ⌜ r ≡ shortOf (now (b .entry)) ⌝ }
 {
-    sets::word(byte(b, p), byte(b, p + 1))
+    sets::word(byte(b, 0), byte(b, 1))
 }
 
-// Four bytes from place p on, zeros past the end.
-pub(crate) fn word_at(b: &[u8], p: usize) -> u32
-    requires { ⌜ p + 4 < 2 ^ 32 ⌝ }
-    ensures { λ r. ⌜ r ≡ wordAt (now (b .entry)) p ⌝ }
+// The first four bytes, zeros past the end.
+pub(crate) fn word_of(b: &[u8]) -> u32
+    ensures { λ r. ⌜ r ≡ wordOf (now (b .entry)) ⌝ }
 {
-    byte(b, p) as u32
-        + 256 * (byte(b, p + 1) as u32)
-        + 65536 * (byte(b, p + 2) as u32)
-        + 16777216 * (byte(b, p + 3) as u32)
+    let low = short_of(b);
+    let high = short_of(sets::rest(b, 2));
+    low as u32 + 65536 * (high as u32)
 }
 
 // The first eight bytes, zeros past the end.

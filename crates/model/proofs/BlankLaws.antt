@@ -5,17 +5,16 @@ use mathlib.Core.List.{List, [], _∷_}
 use Prim.Native.Nat.{ℕ, zero, suc, _+_, _*_, _/_, _%_, _≤_, _<_}
 use native.Mathlib.Nat.{mul-le-mul-right, not-suc-le-zero, le-of-suc-le-suc}
 use native.Mathlib.Omega.{arith}
-use borrow.Author.Tests.{eqb-true, eqb-false, eq-eqb, ne-eqb, ltb-true, ltb-false, lt-ltb, le-ltb, le-leb, leb-true}
+use borrow.Author.Tests.{eqb-true, eqb-false, eq-eqb, ne-eqb, ltb-true, ltb-false, lt-ltb, le-ltb}
 use lib.Bits.{bitOr, or-add-and, and-le-l, and-le-r}
 use lib.Dec.{eqb, leb, ltb}
 use lib.ListN.{length, getD}
 use Rattle.sets.specs.Below.{allBelow, sumBelow}
-use Rattle.sets.specs.Groups.{inPlaces}
 use Rattle.sets.specs.Tests.{within}
 use Rattle.sets.proofs.Tests.{not-both, and-both, and-true, and-false, is-false, within-is, choose}
-use Rattle.sets.proofs.Below.{all-stop, all-each, all-by, sum-more, fill-start, fill-rest}
+use Rattle.sets.proofs.Below.{all-stop, all-each, all-by, sum-more}
 use Rattle.sets.proofs.Groups.{in-places-at}
-use Rattle.model.specs.Records.{blankExit, blankExits, withExits}
+use Rattle.model.specs.Records.{blankExit, withExits}
 use Rattle.model.specs.Rules.{stateFits, stateReaches, exitFits, exitReaches}
 use Rattle.model.specs.Valid.{subjectAt, storedAt, exitNo, exitsFrom, unpacked, stateAt, exitAt, isBlankRow, isBlankState, isBlankStored, exitValid, stateOwn, stateValid, storedValid, rowValid, subjectFits, isBlankSubject, subjectOwn, subjectValid, kindAt, subjectRight, exitsBefore, firstRight, stateRight, startRight, exitsInAll, noneAfter, noMoreExits, valid}
 use Rattle.model.specs.declared.Exit.{Exit}
@@ -89,13 +88,6 @@ module _ (targets senders types : List ℕ) (st : Stored) where
   unfolding exitValid withExits
   no-exit n states x l h = rw (le-ltb x (st .exits) h) (rw (exit-of x l, le-ltb x (st .exits) h))
 
--- a state without exits has none
-pub none-from : (targets senders types : List ℕ) (st : Stored) → st .exits ≡ 0 → blankExits ≡ exitsFrom targets senders types st
-unfolding exitsFrom inPlaces
-none-from targets senders types st e =
-    let f : ℕ → Exit = λ x. cond (ltb x (st .exits)) (exitNo targets senders types (st .first + x)) blankExit in
-    fill-start f blankExit 8 ∙ fill-rest f blankExit 8 0 (omega arith) (λ x l. rw (le-ltb x (st .exits) (omega arith)))
-
 blank-exits : (st : Stored) → isBlankState (withExits st []) ≡ true → st .exits ≡ 0
 unfolding isBlankState withExits
 blank-exits st h =
@@ -141,7 +133,7 @@ module _ (targets senders types : List ℕ) (n states t before : ℕ) (st : Stor
       go true e = rw (any-exits st (exitsFrom targets senders types st), e, none e)
 
 -- the kind of the initial state matters only where there is such a state
-pub kind-free : (n s : ℕ) (sub : Subject) (a b : ℕ) → 32 ≤ sub .initial → subjectValid n s sub a ≡ subjectValid n s sub b
+kind-free : (n s : ℕ) (sub : Subject) (a b : ℕ) → 32 ≤ sub .initial → subjectValid n s sub a ≡ subjectValid n s sub b
 unfolding subjectValid subjectOwn
 kind-free n s sub a b l = go (ltb s n) refl
   where
@@ -232,7 +224,7 @@ pub there-right : (m : Model) (s t : ℕ) → t < 32 → t < subjectAt m s .stat
     → storedValid (m .targets) (m .senders) (m .types) (m .n) (subjectAt m s .states) (exitsBefore m (s * 32 + t)) (storedAt m (s * 32 + t)) ≡ stateRight m (s * 32 + t)
 there-right m s t l k = there-is (m .targets) (m .senders) (m .types) (m .n) (subjectAt m s .states) t _ (storedAt m (s * 32 + t)) k ∙ sym (place-is m s t l)
 
-pub gone-right : (m : Model) (s t : ℕ) → t < 32 → subjectAt m s .states ≤ t → isBlankStored (storedAt m (s * 32 + t)) ≡ stateRight m (s * 32 + t)
+gone-right : (m : Model) (s t : ℕ) → t < 32 → subjectAt m s .states ≤ t → isBlankStored (storedAt m (s * 32 + t)) ≡ stateRight m (s * 32 + t)
 gone-right m s t l k = empty-is (m .targets) (m .senders) (m .types) (m .n) (subjectAt m s .states) t _ (storedAt m (s * 32 + t)) k ∙ sym (place-is m s t l)
 
 -- one more place, after a
@@ -286,17 +278,10 @@ no-places m p l e =
 pub no-place : (m : Model) (p : ℕ) → p < 512 → stateRight m p ≡ false → valid m ≡ false
 no-place m p l e = no-places m 512 (omega arith) (all-stop (stateRight m) p 512 l e)
 
-pub too-many : (m : Model) → 1024 < exitsBefore m 512 → valid m ≡ false
-unfolding valid exitsInAll
-too-many m h =
-    rw (and-false ((within 1 (m .n) 16 && startRight (m .n) (m .start)) && allBelow (subjectRight m) 16 && allBelow (stateRight m) 512) (leb (exitsBefore m 512) 1024) off)
-  where
-    off : leb (exitsBefore m 512) 1024 ≡ false
-    off = is-false (leb (exitsBefore m 512) 1024) (λ (e : leb (exitsBefore m 512) 1024 ≡ true). omega (arith, h, leb-true (exitsBefore m 512) 1024 e))
-
 -- ---- a model with none
+
 pub all-right : (m : Model) (exits : ℕ) → (within 1 (m .n) 16 && startRight (m .n) (m .start)) ≡ true
-    → allBelow (subjectRight m) 16 ≡ true → allBelow (stateRight m) 512 ≡ true → exits ≡ exitsBefore m 512 → exits ≤ 1024
-    → ((noneAfter exits (m .targets) && noneAfter exits (m .senders)) && noneAfter exits (m .types)) ≡ valid m
+    → allBelow (subjectRight m) 16 ≡ true → allBelow (stateRight m) 512 ≡ true → exits ≡ exitsBefore m 512
+    → (leb exits 1024 && ((noneAfter exits (m .targets) && noneAfter exits (m .senders)) && noneAfter exits (m .types))) ≡ valid m
 unfolding valid exitsInAll noMoreExits
-all-right m exits h a b e l = rw (h, a, b, ← e, le-leb exits 1024 l)
+all-right m exits h a b e = rw (h, a, b, ← e)

@@ -2,3 +2,4 @@ pub mod BlankLaws
 pub mod RuleLaws
 pub mod StageLaws
 pub mod DecodedLaws
+pub mod Machine

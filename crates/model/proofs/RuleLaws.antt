@@ -8,7 +8,7 @@ use lib.Dec.{eqb, ltb}
 use Rattle.sets.specs.Tests.{within, same, noneFrom}
 use Rattle.sets.proofs.Tests.{and-true, is-false, within-true, within-is}
 use Rattle.sets.proofs.Masks.{none-past}
-use Rattle.model.specs.Rules.{any, Shape, shapeOf, namesFit, stateFits, thereOrAny, stateReaches}
+use Rattle.model.specs.Rules.{any, none, Shape, shapeOf, namesFit, stateFits, thereOrAny, thereOrNone, stateReaches, stateFitsIn}
 use Rattle.model.specs.declared.State.{State}
 use Rattle.model.proofs.BlankLaws.{and-rest}
 
@@ -37,13 +37,13 @@ pub right : (n states : ℕ) (st : State) (sh : Shape) → shapeOf (st .kind) �
     → {exits names waits sends : Bool}
     → exits ≡ within (sh .least) (st .exits) (sh .most)
     → names ≡ (thereOrAny n (st .sender) && namesFit (sh .filters) (st .sender) (st .typ))
-    → waits ≡ ((sh .waits || (eqb (st .timeout) any && eqb (st .cancel) any)) && (same (eqb (st .after) 0) (eqb (st .timeout) any) && (thereOrAny states (st .timeout) && thereOrAny states (st .cancel))))
+    → waits ≡ ((sh .waits || (eqb (st .timeout) none && eqb (st .cancel) none)) && (same (eqb (st .after) 0) (eqb (st .timeout) none) && (thereOrNone states (st .timeout) && thereOrNone states (st .cancel))))
     → sends ≡ (same (eqb (st .receivers) 0) (not (sh .sends)) && noneFrom n (st .receivers))
-    → ((exits && names) && (waits && sends)) ≡ (stateFits st && stateReaches n states st)
+    → ((exits && names) && (waits && sends)) ≡ stateFitsIn n states st
 unfolding stateFits stateReaches
 right n states st sh e w g y x =
     rw (w, g, y, x, e)
-    (regroup (within (sh .least) (st .exits) (sh .most)) (namesFit (sh .filters) (st .sender) (st .typ)) (sh .waits || (eqb (st .timeout) any && eqb (st .cancel) any)) (same (eqb (st .after) 0) (eqb (st .timeout) any)) (same (eqb (st .receivers) 0) (not (sh .sends))) (thereOrAny states (st .timeout) && thereOrAny states (st .cancel)) (thereOrAny n (st .sender)) (noneFrom n (st .receivers)))
+    (regroup (within (sh .least) (st .exits) (sh .most)) (namesFit (sh .filters) (st .sender) (st .typ)) (sh .waits || (eqb (st .timeout) none && eqb (st .cancel) none)) (same (eqb (st .after) 0) (eqb (st .timeout) none)) (same (eqb (st .receivers) 0) (not (sh .sends))) (thereOrNone states (st .timeout) && thereOrNone states (st .cancel)) (thereOrAny n (st .sender)) (noneFrom n (st .receivers)))
 
 -- ---- what each of them asks
 
@@ -71,9 +71,9 @@ no-names n st = go (ltb (st .sender) n) (eqb (st .sender) any) (eqb (st .typ) an
 
 -- a state without timeout and cancel
 pub no-targets : (states : ℕ) (st : State)
-    → (eqb (st .after) 0 && (eqb (st .timeout) any && eqb (st .cancel) any))
-    ≡ ((eqb (st .timeout) any && eqb (st .cancel) any) && (same (eqb (st .after) 0) (eqb (st .timeout) any) && (thereOrAny states (st .timeout) && thereOrAny states (st .cancel))))
-no-targets states st = go (eqb (st .after) 0) (eqb (st .timeout) any) (eqb (st .cancel) any) (ltb (st .timeout) states) (ltb (st .cancel) states)
+    → (eqb (st .after) 0 && (eqb (st .timeout) none && eqb (st .cancel) none))
+    ≡ ((eqb (st .timeout) none && eqb (st .cancel) none) && (same (eqb (st .after) 0) (eqb (st .timeout) none) && (thereOrNone states (st .timeout) && thereOrNone states (st .cancel))))
+no-targets states st = go (eqb (st .after) 0) (eqb (st .timeout) none) (eqb (st .cancel) none) (ltb (st .timeout) states) (ltb (st .cancel) states)
   where
     go : (after timeout cancel a b : Bool)
         → (after && (timeout && cancel)) ≡ ((timeout && cancel) && (same after timeout && ((a || timeout) && (b || cancel))))
@@ -117,5 +117,5 @@ reaches-all st s t c r =
     and-true (and-true (and-true (there (st .timeout) t) (there (st .cancel) c)) (there (st .sender) s)) (none-past 16 255 (st .receivers) (omega arith) r)
 
 pub largest : (st : State) → st .sender < 256 → st .timeout < 256 → st .cancel < 256 → st .receivers < 65536
-    → (stateFits st && stateReaches 255 255 st) ≡ stateFits st
+    → stateFitsIn any any st ≡ stateFits st
 largest st s t c r = and-rest (stateFits st) (stateReaches 255 255 st) (reaches-all st s t c r)

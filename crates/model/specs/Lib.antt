@@ -4,6 +4,5 @@ pub mod Records
 pub mod Stages
 pub mod Decoded
 pub mod Valid
-pub mod Views
 pub mod Loading
 pub mod File

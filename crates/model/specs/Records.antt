@@ -34,22 +34,8 @@ blankSubject = record { states = 0; initial = 0; rows = 0; row = blankRows }
 
 -- ---- a record's fields
 
--- state: 2 kind; 3 exits; 4 sender; 5 type; 6-7 timeout duration; 8 timeout target; 9 cancel target; 10-11 receiver mask
-unfoldable pub stateOf : List ℕ → List Exit → State
-stateOf r es =
-    record {
-      kind = getD r 2 0;
-      exits = getD r 3 0;
-      sender = getD r 4 0;
-      typ = getD r 5 0;
-      after = wordAt r 6;
-      timeout = getD r 8 0;
-      cancel = getD r 9 0;
-      receivers = wordAt r 10;
-      exit = es;
-    }
-
--- the same as a model keeps it: its exits begin at `first`
+-- state: 2 kind; 3 exits; 4 sender; 5 type; 6-7 timeout duration; 8 timeout target; 9 cancel target; 10-11 receiver mask. As a model
+-- keeps it: its exits begin at `first`
 unfoldable pub storedOf : List ℕ → ℕ → Stored
 storedOf r first =
     record {
@@ -78,6 +64,10 @@ withExits st es =
       receivers = st .receivers;
       exit = es;
     }
+
+-- the state of a record, with the given exits
+unfoldable pub stateOf : List ℕ → List Exit → State
+stateOf r es = withExits (storedOf r 0) es
 
 -- exit: 3 target; 4 sender; 5 type
 unfoldable pub exitOf : List ℕ → Exit

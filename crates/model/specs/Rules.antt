@@ -8,9 +8,17 @@ use Rattle.model.specs.declared.Exit.{Exit}
 use Rattle.model.specs.declared.Row.{Row}
 use Rattle.model.specs.declared.State.{State}
 
--- 255 is 'any' as a sender or a type, 'none' as a target
+-- 'any' as a sender or a type
 abbrev pub any : ℕ
 any = 255
+
+-- 'none' as a timeout or cancel target
+abbrev pub none : ℕ
+none = 255
+
+-- the kind of an end
+abbrev pub endKind : ℕ
+endKind = 7
 
 -- a message type: 0 to 31
 abbrev pub isType : ℕ → Bool
@@ -38,7 +46,7 @@ shapeOf kind =
     (cond (eqb kind 3) (record { least = 1; most = mostExits; filters = false; waits = true; sends = false })
     (cond (within 4 kind 5) (record { least = 1; most = 1; filters = true; waits = false; sends = false })
     (cond (eqb kind 6) (record { least = 2; most = 2; filters = true; waits = false; sends = false })
-    (cond (eqb kind 7) (record { least = 0; most = 0; filters = false; waits = false; sends = false })
+    (cond (eqb kind endKind) (record { least = 0; most = 0; filters = false; waits = false; sends = false })
     (record { least = 1; most = 0; filters = false; waits = false; sends = false }))))))
 
 -- a state's sender and type: a type or any where its kind uses them, else both 255
@@ -50,8 +58,8 @@ unfoldable pub stateFits : State → Bool
 stateFits st =
     within (shapeOf (st .kind) .least) (st .exits) (shapeOf (st .kind) .most)
     && namesFit (shapeOf (st .kind) .filters) (st .sender) (st .typ)
-    && (shapeOf (st .kind) .waits || (eqb (st .timeout) any && eqb (st .cancel) any))
-    && same (eqb (st .after) 0) (eqb (st .timeout) any)
+    && (shapeOf (st .kind) .waits || (eqb (st .timeout) none && eqb (st .cancel) none))
+    && same (eqb (st .after) 0) (eqb (st .timeout) none)
     && same (eqb (st .receivers) 0) (not (shapeOf (st .kind) .sends))
 
 -- the sender and type of an exit, by the kind of its state: a receive names both, a send its type, others neither
@@ -67,14 +75,22 @@ rowFits w = within 1 (w .limit) mostLimit && typeOrAny (w .typ)
 
 -- ---- what has to exist
 
--- x is below n, or 255
+-- a subject below n, or any
 abbrev pub thereOrAny : ℕ → ℕ → Bool
 thereOrAny n x = ltb x n || eqb x any
+
+-- a state below n, or none
+abbrev pub thereOrNone : ℕ → ℕ → Bool
+thereOrNone n x = ltb x n || eqb x none
 
 -- of n subjects, of which the state's own has `states` states: targets, sender and receivers exist
 unfoldable pub stateReaches : ℕ → ℕ → State → Bool
 stateReaches n states st =
-    thereOrAny states (st .timeout) && thereOrAny states (st .cancel) && thereOrAny n (st .sender) && noneFrom n (st .receivers)
+    thereOrNone states (st .timeout) && thereOrNone states (st .cancel) && thereOrAny n (st .sender) && noneFrom n (st .receivers)
+
+-- the fields are right for the kind, and what they name exists
+abbrev pub stateFitsIn : ℕ → ℕ → State → Bool
+stateFitsIn n states st = stateFits st && stateReaches n states st
 
 unfoldable pub exitReaches : ℕ → ℕ → Exit → Bool
 exitReaches n states e = ltb (e .target) states && thereOrAny n (e .sender)

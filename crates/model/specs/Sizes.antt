@@ -1,7 +1,13 @@
 -- The sizes of a model, each said once.
 use Prim.Native.Nat.{ℕ}
 
--- blocks of a file
+-- bytes of a block, records of a block, and blocks of a file
+abbrev pub blockBytes : ℕ
+blockBytes = 512
+
+abbrev pub mostRecords : ℕ
+mostRecords = 42
+
 abbrev pub mostBlocks : ℕ
 mostBlocks = 43
 
@@ -33,3 +39,7 @@ mostLimit = 16
 -- message types
 abbrev pub types : ℕ
 types = 32
+
+-- keys of states: subject and state as one number
+abbrev pub keys : ℕ
+keys = 65536

@@ -8,13 +8,13 @@ use lib.ListN.{length, getD, drop}
 use Rattle.sets.specs.Below.{allBelow}
 use Rattle.sets.specs.Tests.{within, allZero}
 use Rattle.blocks.specs.Blocks.{blocks, blockOf, roomRight, kindOf, usedOf, recordOf, recordNo, countOf}
-use Rattle.model.specs.Sizes.{mostBlocks, mostSubjects, mostStates}
+use Rattle.model.specs.Sizes.{blockBytes, mostRecords, mostBlocks, mostSubjects, mostStates, keys}
 use Rattle.model.specs.Records.{stateKey, orderOf, stateOf, exitOf, rowOf, blankExits}
 use Rattle.model.specs.Rules.{stateFits, exitFits, rowFits}
 
 -- 1: the length is 1 to 43 whole blocks
 unfoldable pub lengthRight : List ℕ → Bool
-lengthRight file = eqb (length file % 512) 0 && within 1 (blocks file) mostBlocks
+lengthRight file = eqb (length file % blockBytes) 0 && within 1 (blocks file) mostBlocks
 
 -- ---- 3: block number, kind order, record count, fullness, unused room
 
@@ -22,9 +22,10 @@ lengthRight file = eqb (length file % 512) 0 && within 1 (blocks file) mostBlock
 unfoldable pub kindRight : ℕ → ℕ → ℕ → Bool
 kindRight b before kind = cond (eqb b 0) (eqb kind 1) (within 2 kind 4 && leb before kind)
 
--- every block but the last of its kind is full
+-- a block with fewer than 42 records is wrong where the next block has its kind. With the kinds in order that is the paper's "every
+-- block but the last of its kind is full"; out of order, the block out of place is named
 unfoldable pub fullRight : ℕ → ℕ → ℕ → Bool
-fullRight used kind after = eqb used 42 || not (eqb after kind)
+fullRight used kind after = eqb used mostRecords || not (eqb after kind)
 
 unfoldable pub blockRight : List ℕ → ℕ → Bool
 blockRight file b =
@@ -38,7 +39,7 @@ blockRight file b =
 unfoldable pub recordBefore : List ℕ → ℕ → ℕ → List ℕ
 recordBefore file b i =
     cond (ltb 0 i) (recordOf file b (i - 1))
-    (cond (eqb (kindOf file (b - 1)) (kindOf file b)) (recordOf file (b - 1) 41) [])
+    (cond (eqb (kindOf file (b - 1)) (kindOf file b)) (recordOf file (b - 1) (mostRecords - 1)) [])
 
 -- strictly ascending
 abbrev pub ascends : List ℕ → ℕ → ℕ → Bool
@@ -55,7 +56,7 @@ ownKind file key = kindAmong file key (countOf file 2)
 
 -- a table that has the kind of every state at its key
 pub record Kinds (file kinds : List ℕ) : Type 0 where
-  pub tells : (key : ℕ) → key < 65536 → getD kinds key 0 ≡ ownKind file key
+  pub tells : (key : ℕ) → key < keys → getD kinds key 0 ≡ ownKind file key
 
 -- header, first: 1 to 16 subjects, n + 1 records; then one for each subject in order, with 1 to 32 states
 unfoldable pub headerRight : ℕ → ℕ → List ℕ → Bool

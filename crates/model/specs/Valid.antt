@@ -10,7 +10,7 @@ use Rattle.sets.specs.Groups.{inPlaces}
 use Rattle.sets.specs.Tests.{within, noneFrom}
 use Rattle.model.specs.Sizes.{mostSubjects, mostStates, statePlaces, mostExits, mostExitsInAll, mostRows}
 use Rattle.model.specs.Records.{blankExit, blankRow, blankStored, withExits}
-use Rattle.model.specs.Rules.{stateFits, exitFits, rowFits, stateReaches, exitReaches, rowReaches}
+use Rattle.model.specs.Rules.{endKind, exitFits, rowFits, stateFitsIn, exitReaches, rowReaches}
 use Rattle.model.specs.declared.Exit.{Exit}
 use Rattle.model.specs.declared.Model.{Model}
 use Rattle.model.specs.declared.Row.{Row}
@@ -76,7 +76,7 @@ exitValid n states st x =
 
 -- the fields of the state with number t of a subject with `states` states: right if the subject has it, else blank
 unfoldable pub stateOwn : ℕ → ℕ → ℕ → State → Bool
-stateOwn n states t st = cond (ltb t states) (stateFits st && stateReaches n states st) (isBlankState st)
+stateOwn n states t st = cond (ltb t states) (stateFitsIn n states st) (isBlankState st)
 
 -- the same with its exits
 unfoldable pub stateValid : ℕ → ℕ → ℕ → State → Bool
@@ -85,7 +85,7 @@ stateValid n states t st = stateOwn n states t st && allBelow (exitValid n state
 -- what a model keeps of a state that a subject with `states` states has: fields and exits right, and these begin at `place`
 unfoldable pub storedValid : List ℕ → List ℕ → List ℕ → ℕ → ℕ → ℕ → Stored → Bool
 storedValid targets senders types n states place st =
-    (stateFits (unpacked targets senders types st) && stateReaches n states (unpacked targets senders types st))
+    stateFitsIn n states (unpacked targets senders types st)
     && eqb (st .first) place
     && allBelow (exitValid n states (unpacked targets senders types st)) mostExits
 
@@ -109,7 +109,7 @@ rowValid n sub k =
 -- a subject with 1 to 32 states, whose initial state has the given kind and is no end, and with up to 8 rows
 abbrev pub subjectFits : Subject → ℕ → Bool
 subjectFits sub kind =
-    within 1 (sub .states) mostStates && ltb (sub .initial) (sub .states) && not (eqb kind 7) && leb (sub .rows) mostRows
+    within 1 (sub .states) mostStates && ltb (sub .initial) (sub .states) && not (eqb kind endKind) && leb (sub .rows) mostRows
 
 abbrev pub isBlankSubject : Subject → Bool
 isBlankSubject sub = eqb (sub .states) 0 && eqb (sub .initial) 0 && eqb (sub .rows) 0

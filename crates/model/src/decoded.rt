@@ -7,15 +7,17 @@ ghost use lib.Dec.{ltb, leb, eqb};
 ghost use Rattle.sets.specs.Below.{allBelow, sumBelow, table};
 ghost use Rattle.blocks.specs.Blocks.{firstBlock, countOf, recordFrom};
 ghost use Rattle.model.specs.Sizes.{mostSubjects, statePlaces, mostRows};
-ghost use Rattle.model.specs.Records.{blankRow, blankStored, blankSubject, stateKey, storedOf, rowOf};
+ghost use Rattle.model.specs.Records.{blankRow, blankStored, stateKey, storedOf, rowOf};
 ghost use Rattle.model.specs.Decoded.{subjectsIn, limitsIn, rowsIn, rowsFrom, subjectIn, storedIn, exitBytes, modelOf, exitsNamed, ownerThere, statesInPlace, exitsInPlace, limitsInPlace, inPlace};
 use super::Model;
 use super::Row;
 use super::Stored;
 use super::Subject;
 use super::records;
+use super::sizes::LAST_STATE;
 use super::sizes::MOST_EXITS_IN_ALL;
 use super::sizes::MOST_ROWS;
+use super::sizes::MOST_ROWS_U8;
 use super::sizes::MOST_STATES;
 use super::sizes::MOST_SUBJECTS;
 use super::sizes::STATE_PLACES;
@@ -58,7 +60,7 @@ fn rows_in(file: &[u8], first: usize, count: usize, s: usize) -> u8
     if found < MOST_ROWS {
         return found as u8;
     }
-    8
+    MOST_ROWS_U8
 }
 
 // Row k of those that start at the given place; blank past the last.
@@ -81,7 +83,7 @@ fn rows_from(file: &[u8], first: usize, place: usize, rows: u8) -> [Row; MOST_RO
     requires { ⌜ place ≤ 65536 ⌝ }
     ensures { λ r. ⌜ r ≡ rowsFrom (now (file .entry)) first place rows ⌝ }
 {
-    let mut row = records::no_rows();
+    let mut row = records::blank_rows();
     let mut k = 0;
     while k < MOST_ROWS {
         row[k] = row_from(file, first, place, rows, k);
@@ -91,7 +93,7 @@ fn rows_from(file: &[u8], first: usize, place: usize, rows: u8) -> [Row; MOST_RO
 }
 
 // Subject s of n, with the rows that start at the given place.
-fn subject(file: &[u8], n: u8, s: usize, rows: u8, first: usize, place: usize) -> Subject
+fn subject_in(file: &[u8], n: u8, s: usize, rows: u8, first: usize, place: usize) -> Subject
     requires { ⌜ (n ≡ subjectsIn (now file)) × (s < mostSubjects) × (rows ≡ rowsIn (now file) s) × (first ≡ firstBlock (now file) 4) × (place ≡ sumBelow (rowsIn (now file)) s) × (place ≤ 65536) ⌝ }
     ensures { λ r. ⌜ r ≡ subjectIn (now (file .entry)) s ⌝ }
 {
@@ -105,19 +107,7 @@ fn subject(file: &[u8], n: u8, s: usize, rows: u8, first: usize, place: usize) -
             row,
         };
     }
-    no_subject()
-}
-
-// An unused subject.
-pub(crate) fn no_subject() -> Subject
-    ensures { λ r. ⌜ r ≡ blankSubject ⌝ }
-{
-    Subject {
-        states: 0,
-        initial: 0,
-        rows: 0,
-        row: records::no_rows(),
-    }
+    records::blank_subject()
 }
 
 // All subjects.
@@ -127,13 +117,13 @@ fn subjects(file: &[u8]) -> [Subject; MOST_SUBJECTS]
     let first = blocks::first_block(file, 4);
     let count = blocks::count_of(file, 4);
     let n = byte(record(file, 0, 0), 0);
-    let none = no_subject();
+    let none = records::blank_subject();
     let mut subjects = [none; MOST_SUBJECTS];
     let mut place: usize = 0;
     let mut s = 0;
     while s < MOST_SUBJECTS {
         let rows = rows_in(file, first, count, s);
-        subjects[s] = subject(file, n, s, rows, first, place);
+        subjects[s] = subject_in(file, n, s, rows, first, place);
         place += rows as usize;
         s += 1;
     }
@@ -142,23 +132,6 @@ fn subjects(file: &[u8]) -> [Subject; MOST_SUBJECTS]
 
 // ---- states and their exits
 
-// An unused state.
-pub(crate) fn no_state() -> Stored
-    ensures { λ r. ⌜ r ≡ blankStored ⌝ }
-{
-    Stored {
-        kind: 0,
-        exits: 0,
-        sender: 0,
-        typ: 0,
-        after: 0,
-        timeout: 0,
-        cancel: 0,
-        receivers: 0,
-        first: 0,
-    }
-}
-
 // The state of record j, whose exits begin at the given place, where the subject has it; else an unused state.
 fn state_or_none(file: &[u8], has: bool, first: usize, j: usize, place: usize) -> Stored
     ensures { λ r. ⌜ r ≡ cond has (storedOf (recordFrom (now (file .entry)) first j) (place % 65536)) blankStored ⌝ }
@@ -166,7 +139,7 @@ fn state_or_none(file: &[u8], has: bool, first: usize, j: usize, place: usize) -
     if has {
         return records::stored_of(record_from(file, first, j), (place % 65536) as u16);
     }
-    no_state()
+    records::blank_stored()
 }
 
 // Where the states of the next place's subject start: past those of this one after its last place.
@@ -174,7 +147,7 @@ fn next_start(start: usize, t: usize, states: u8) -> usize
     requires { ⌜ start ≤ 65536 ⌝ }
     ensures { λ r. ⌜ r ≡ cond (eqb t 31) (start + states) start ⌝ }
 {
-    if t == 31 {
+    if t == LAST_STATE {
         return start + states as usize;
     }
     start
@@ -186,7 +159,7 @@ fn states(file: &[u8], subjects: [Subject; MOST_SUBJECTS]) -> [Stored; STATE_PLA
     ensures { λ r. ⌜ r ≡ table (storedIn (now (file .entry))) statePlaces ⌝ }
 {
     let first = blocks::first_block(file, 2);
-    let none = no_state();
+    let none = records::blank_stored();
     let mut states = [none; STATE_PLACES];
     let mut start: usize = 0;
     let mut place: usize = 0;

@@ -5,6 +5,7 @@ mod records;
 mod rules;
 mod sizes;
 mod stages;
+mod unpacked;
 mod valid;
 
 pub use blocks::Verdict;
@@ -19,9 +20,8 @@ pub use sizes::MOST_ROWS;
 pub use sizes::MOST_STATES;
 pub use sizes::MOST_SUBJECTS;
 pub use sizes::STATE_PLACES;
+pub use unpacked::unpack;
 pub use valid::is_valid;
-pub use valid::states;
-pub use valid::view;
 
 // An exit of a state: where it leads; of a receive the sender and the type, of a send the type.
 pub struct Exit {
@@ -87,13 +87,4 @@ pub struct Model {
 pub struct Loaded {
     pub model: Model,
     pub verdict: Verdict,
-}
-
-// What is seen of a model: whether it is valid, its subjects, a state of each, and the kinds of the states of one.
-pub struct Seen {
-    pub valid: bool,
-    pub n: u8,
-    pub subjects: [Subject; MOST_SUBJECTS],
-    pub here: [State; MOST_SUBJECTS],
-    pub kinds: [u8; MOST_STATES],
 }

@@ -4,6 +4,7 @@ ghost use Rattle.model.specs.Loading.{emptyModel, refused, acrossOr, loa
 use super::Loaded;
 use super::Model;
 use super::decoded;
+use super::records;
 use super::sizes::MOST_EXITS_IN_ALL;
 use super::sizes::MOST_SUBJECTS;
 use super::sizes::STATE_PLACES;
@@ -13,11 +14,11 @@ use blocks::Verdict;
 use sets::Found;
 
 // A model with no subjects.
-fn empty() -> Model
+fn empty_model() -> Model
     ensures { λ r. ⌜ r ≡ emptyModel ⌝ }
 {
-    let subject = decoded::no_subject();
-    let state = decoded::no_state();
+    let subject = records::blank_subject();
+    let state = records::blank_stored();
     Model {
         n: 0,
         start: 0,
@@ -34,13 +35,13 @@ fn refused(why: Verdict) -> Loaded
     ensures { λ r. ⌜ r ≡ refused why ⌝ }
 {
     Loaded {
-        model: empty(),
+        model: empty_model(),
         verdict: why,
     }
 }
 
 // The model of the records, where no rule across records is broken.
-fn across(file: &[u8]) -> Loaded
+fn across_or(file: &[u8]) -> Loaded
     ensures { λ r. ⌜ r ≡ acrossOr (now (file .entry)) ⌝ }
 {
     let model = decoded::model(file);
@@ -75,5 +76,5 @@ pub fn load(file: &[u8]) -> Loaded
     if let Found::At(b) = record {
         return refused(Verdict::Record(b));
     }
-    across(file)
+    across_or(file)
 }

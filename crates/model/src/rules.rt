@@ -3,33 +3,45 @@ ghost use mathlib.Core.Path.{_≡_};
 ghost use mathlib.Core.Bool.{true, false, _&&_, not};
 ghost use lib.Dec.{eqb};
 ghost use Rattle.sets.specs.Tests.{same, noneFrom};
-ghost use Rattle.model.specs.Rules.{any, typeOrAny, namesFit, stateFits, exitFits, rowFits, thereOrAny, stateReaches, exitReaches, rowReaches};
+ghost use Rattle.model.specs.Rules.{none, typeOrAny, namesFit, stateFits, exitFits, rowFits, thereOrAny, thereOrNone, stateFitsIn, exitReaches, rowReaches};
 use super::Exit;
 use super::Row;
 use super::State;
+use super::sizes::ANY;
+use super::sizes::MOST_EXITS_U8;
+use super::sizes::MOST_LIMIT;
+use super::sizes::NONE;
+use super::sizes::TYPES;
 use sets::both;
 use sets::either;
 use sets::is_within;
 
-// A message type, or 255 for any.
+// A message type, or any.
 fn type_or_any(t: u8) -> bool
     ensures { λ r. ⌜ r ≡ typeOrAny t ⌝ }
 {
-    either(t < 32, t == 255)
+    either(t < TYPES, t == ANY)
 }
 
-// A number below n, or 255.
+// A subject below n, or any.
 fn there_or_any(n: u8, x: u8) -> bool
     ensures { λ r. ⌜ r ≡ thereOrAny n x ⌝ }
 {
-    either(x < n, x == 255)
+    either(x < n, x == ANY)
+}
+
+// A state below n, or none.
+fn there_or_none(n: u8, x: u8) -> bool
+    ensures { λ r. ⌜ r ≡ thereOrNone n x ⌝ }
+{
+    either(x < n, x == NONE)
 }
 
 // The state names neither a sender nor a type.
 fn names_none(st: State) -> bool
     ensures { λ r. ⌜ r ≡ namesFit false (st .sender) (st .typ) ⌝ }
 {
-    both(st.sender == 255, st.typ == 255)
+    both(st.sender == ANY, st.typ == ANY)
 }
 
 // The state names one of n subjects or any, and a type or any.
@@ -41,21 +53,21 @@ fn names_some(n: u8, st: State) -> bool
 
 // The state may wait: a timeout exactly where there is a duration, and both targets exist.
 fn waits_right(states: u8, st: State) -> bool
-    ensures { λ r. ⌜ r ≡ (same (eqb (st .after) 0) (eqb (st .timeout) any) && (thereOrAny states (st .timeout) && thereOrAny states (st .cancel))) ⌝ }
+    ensures { λ r. ⌜ r ≡ (same (eqb (st .after) 0) (eqb (st .timeout) none) && (thereOrNone states (st .timeout) && thereOrNone states (st .cancel))) ⌝ }
 {
-    let after = sets::same(st.after == 0, st.timeout == 255);
+    let after = sets::same(st.after == 0, st.timeout == NONE);
     let targets = both(
-        there_or_any(states, st.timeout),
-        there_or_any(states, st.cancel),
+        there_or_none(states, st.timeout),
+        there_or_none(states, st.cancel),
     );
     both(after, targets)
 }
 
 // The state never waits: no duration, no timeout, no cancel.
 fn never_waits(st: State) -> bool
-    ensures { λ r. ⌜ r ≡ (eqb (st .after) 0 && (eqb (st .timeout) any && eqb (st .cancel) any)) ⌝ }
+    ensures { λ r. ⌜ r ≡ (eqb (st .after) 0 && (eqb (st .timeout) none && eqb (st .cancel) none)) ⌝ }
 {
-    both(st.after == 0, both(st.timeout == 255, st.cancel == 255))
+    both(st.after == 0, both(st.timeout == NONE, st.cancel == NONE))
 }
 
 // There are receivers, and all of them are below n.
@@ -67,13 +79,13 @@ fn sends_right(n: u8, receivers: u16) -> bool
 
 // The fields of a state are right for its kind, and what it names exists, of n subjects and of so many states. By kind, so that
 // only what can differ is asked.
-pub(crate) fn state_right(n: u8, states: u8, st: State) -> bool
-    ensures { λ r. ⌜ r ≡ (stateFits st && stateReaches n states st) ⌝ }
+pub(crate) fn state_fits_in(n: u8, states: u8, st: State) -> bool
+    ensures { λ r. ⌜ r ≡ stateFitsIn n states st ⌝ }
 {
     let kind = st.kind;
     match kind {
         1 | 3 => {
-            let fits = both(is_within(1, st.exits, 8), names_none(st));
+            let fits = both(is_within(1, st.exits, MOST_EXITS_U8), names_none(st));
             both(fits, both(waits_right(states, st), st.receivers == 0))
         }
         2 => {
@@ -99,11 +111,11 @@ pub(crate) fn state_right(n: u8, states: u8, st: State) -> bool
     }
 }
 
-// The fields of a state are right for its kind: in the largest model whatever a byte names is there.
+// The fields of a state are right for its kind: every byte is below ANY or ANY, so that whatever it names is there.
 pub(crate) fn state_fits(st: State) -> bool
     ensures { λ r. ⌜ r ≡ stateFits st ⌝ }
 {
-    state_right(255, 255, st)
+    state_fits_in(ANY, ANY, st)
 }
 
 // The sender and type of an exit are right for the kind of its state.
@@ -111,19 +123,19 @@ pub(crate) fn exit_fits(kind: u8, e: Exit) -> bool
     ensures { λ r. ⌜ r ≡ exitFits kind e ⌝ }
 {
     if kind == 3 {
-        return both(e.sender != 255, e.typ < 32);
+        return both(e.sender != ANY, e.typ < TYPES);
     }
     if kind == 2 {
-        return both(e.sender == 255, e.typ < 32);
+        return both(e.sender == ANY, e.typ < TYPES);
     }
-    both(e.sender == 255, e.typ == 255)
+    both(e.sender == ANY, e.typ == ANY)
 }
 
 // The limit and the type of a row are right.
 pub(crate) fn row_fits(w: Row) -> bool
     ensures { λ r. ⌜ r ≡ rowFits w ⌝ }
 {
-    both(is_within(1, w.limit, 16), type_or_any(w.typ))
+    both(is_within(1, w.limit, MOST_LIMIT), type_or_any(w.typ))
 }
 
 // The target and the sender of an exit exist.

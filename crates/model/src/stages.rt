@@ -6,7 +6,13 @@ ghost use Rattle.blocks.specs.Blocks.{blocks, blockOf, checkRight, kindOf};
 ghost use Rattle.model.specs.Stages.{lengthRight, kindRight, fullRight, blockRight, recordBefore, Kinds, headerRight, exitRight, limitRight, fieldsRight, recordRight, recordsRight};
 use super::records;
 use super::rules;
+use super::sizes::BLOCK_BYTES;
+use super::sizes::KEYS;
+use super::sizes::LAST_RECORD;
 use super::sizes::MOST_BLOCKS;
+use super::sizes::MOST_RECORDS;
+use super::sizes::MOST_STATES_U8;
+use super::sizes::MOST_SUBJECTS_U8;
 use blocks::block;
 use blocks::record;
 use sets::Found;
@@ -20,15 +26,18 @@ use sets::rest;
 pub(crate) fn length_right(file: &[u8]) -> bool
     ensures { λ r. ⌜ r ≡ lengthRight (now (file .entry)) ⌝ }
 {
-    let n = file.len() / 512;
-    both(file.len() % 512 == 0, both(1 <= n, n <= MOST_BLOCKS))
+    let n = file.len() / BLOCK_BYTES;
+    both(
+        file.len() % BLOCK_BYTES == 0,
+        both(1 <= n, n <= MOST_BLOCKS),
+    )
 }
 
 // The first block whose check is wrong.
 pub(crate) fn first_bad_check(file: &[u8]) -> Found
     ensures { λ r. ⌜ r ≡ firstNot (λ b. checkRight (blockOf (now (file .entry)) b)) (blocks (now (file .entry))) ⌝ }
 {
-    let n = file.len() / 512;
+    let n = file.len() / BLOCK_BYTES;
     let mut b = 0;
     while b < n {
         if !blocks::check_right(block(file, b)) {
@@ -63,11 +72,11 @@ fn kind_right(b: usize, before: u8, kind: u8) -> bool
     both(is_within(2, kind, 4), before <= kind)
 }
 
-// Every block but the last of its kind is full.
+// A block is full, or the next one is not of its kind.
 fn full_right(used: u8, kind: u8, after: u8) -> bool
     ensures { λ r. ⌜ r ≡ fullRight used kind after ⌝ }
 {
-    sets::either(used == 42, after != kind)
+    sets::either(used == MOST_RECORDS, after != kind)
 }
 
 // 3: block b is right, between the one before it and the one after it.
@@ -86,7 +95,7 @@ fn block_right(file: &[u8], b: usize) -> bool
 pub(crate) fn first_bad_block(file: &[u8]) -> Found
     ensures { λ r. ⌜ r ≡ firstNot (blockRight (now (file .entry))) (blocks (now (file .entry))) ⌝ }
 {
-    let n = file.len() / 512;
+    let n = file.len() / BLOCK_BYTES;
     let mut b = 0;
     while b < n {
         if !block_right(file, b) {
@@ -106,18 +115,18 @@ fn record_before<'a>(file: &'a [u8], b: usize, i: usize) -> &'a [u8]
     }
     let a = before(b);
     if kind_of(file, a) == kind_of(file, b) {
-        return record(file, a, 41);
+        return record(file, a, LAST_RECORD);
     }
     &file[..0]
 }
 
 // The kind of every state that has a record, at its key; 0 elsewhere.
-fn kinds(file: &[u8]) -> [u8; 65536]
+fn kinds(file: &[u8]) -> [u8; KEYS]
     ensures { λ r. ⌜ Kinds (now (file .entry)) r ⌝ }
 {
     let first = blocks::first_block(file, 2);
     let count = blocks::count_of(file, 2);
-    let mut kinds = [0u8; 65536];
+    let mut kinds = [0u8; KEYS];
     let mut j = 0;
     while j < count {
         let r = blocks::record_from(file, first, j);
@@ -136,12 +145,18 @@ fn header_right(used: u8, i: usize, r: &[u8]) -> bool
     let first = byte(r, 0);
     if i == 0 {
         return both(
-            both(is_within(1, first, 16), used as usize == first as usize + 1),
+            both(
+                is_within(1, first, MOST_SUBJECTS_U8),
+                used as usize == first as usize + 1,
+            ),
             zero,
         );
     }
     both(
-        both(first as usize + 1 == i, is_within(1, byte(r, 1), 32)),
+        both(
+            first as usize + 1 == i,
+            is_within(1, byte(r, 1), MOST_STATES_U8),
+        ),
         zero,
     )
 }
@@ -169,7 +184,7 @@ fn fields_right(file: &[u8], k: u8, r: &[u8], kinds: &[u8]) -> bool
     ensures { λ t. ⌜ t ≡ fieldsRight (now (file .entry)) k (now (r .entry)) ⌝ }
 {
     if k == 2 {
-        let none = records::no_exits();
+        let none = records::blank_exits();
         return rules::state_fits(records::state_of(r, none));
     }
     if k == 3 {
@@ -190,8 +205,8 @@ fn record_right(file: &[u8], b: usize, i: usize, kinds: &[u8]) -> bool
     if k == 1 {
         return header_right(byte(part, 3), i, r);
     }
-    let earlier = records::order(k, record_before(file, b, i));
-    let here = records::order(k, r);
+    let earlier = records::order_of(k, record_before(file, b, i));
+    let here = records::order_of(k, r);
     both(earlier < here, fields_right(file, k, r, kinds))
 }
 
@@ -200,7 +215,7 @@ pub(crate) fn first_bad_record(file: &[u8]) -> Found
     ensures { λ r. ⌜ r ≡ firstNot (recordsRight (now (file .entry))) (blocks (now (file .entry))) ⌝ }
 {
     let kinds = kinds(file);
-    let n = file.len() / 512;
+    let n = file.len() / BLOCK_BYTES;
     let mut found = Found::Nothing;
     let mut b = 0;
     'search: while b < n {

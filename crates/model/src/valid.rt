@@ -1,80 +1,27 @@
 // Whether a model is valid: every rule kept, all other room zero.
 ghost use mathlib.Core.Path.{_≡_};
 ghost use Prim.Native.Nat.{_<_};
-ghost use lib.Dec.{eqb};
+ghost use mathlib.Core.Bool.{_&&_};
+ghost use lib.Dec.{eqb, leb};
 ghost use Rattle.sets.specs.Below.{allBelow};
-ghost use Rattle.model.specs.Sizes.{mostExits, mostRows};
-ghost use Rattle.model.specs.Records.{withExits};
-ghost use Rattle.model.specs.Valid.{rowAt, isBlankRow, exitNo, exitsFrom, unpacked, exitValid, storedValid, isBlankStored, noneAfter, rowKey, rowAscends, rowValid, subjectOwn, subjectValid, startRight, valid};
-ghost use Rattle.model.specs.Views.{viewOf, statesOf};
-use super::Exit;
+ghost use Rattle.model.specs.Sizes.{mostExits, mostExitsInAll, mostRows};
+ghost use Rattle.model.specs.Valid.{rowAt, isBlankRow, unpacked, exitValid, storedValid, isBlankStored, noneAfter, rowKey, rowAscends, rowValid, subjectOwn, subjectValid, startRight, valid};
 use super::Model;
 use super::Row;
-use super::Seen;
-use super::State;
 use super::Stored;
 use super::Subject;
 use super::records;
 use super::rules;
-use super::sizes::MOST_EXITS;
+use super::sizes::END_KIND;
 use super::sizes::MOST_EXITS_IN_ALL;
 use super::sizes::MOST_ROWS;
+use super::sizes::MOST_ROWS_U8;
 use super::sizes::MOST_STATES;
+use super::sizes::MOST_STATES_U8;
 use super::sizes::MOST_SUBJECTS;
-use super::sizes::STATE_PLACES;
+use super::sizes::MOST_SUBJECTS_U8;
+use super::unpacked;
 use sets::both;
-use sets::byte;
-
-// Exit j of those of a model; blank past the last place.
-fn exit_at<'a>(targets: &'a [u8], senders: &'a [u8], types: &'a [u8], j: usize) -> Exit
-    ensures { λ r. ⌜ r ≡ exitNo (now (targets .entry)) (now (senders .entry)) (now (types .entry)) j ⌝ }
-{
-    Exit {
-        target: byte(targets, j),
-        sender: byte(senders, j),
-        typ: byte(types, j),
-    }
-}
-
-// A state with the given exits.
-fn with_exits(st: Stored, exit: [Exit; MOST_EXITS]) -> State
-    ensures { λ r. ⌜ r ≡ withExits st exit ⌝ }
-{
-    State {
-        kind: st.kind,
-        exits: st.exits,
-        sender: st.sender,
-        typ: st.typ,
-        after: st.after,
-        timeout: st.timeout,
-        cancel: st.cancel,
-        receivers: st.receivers,
-        exit,
-    }
-}
-
-// The exits of a state, from its first on.
-fn exits_from<'a>(
-    targets: &'a [u8],
-    senders: &'a [u8],
-    types: &'a [u8],
-    st: Stored,
-) -> [Exit; MOST_EXITS]
-    ensures { λ r. ⌜ r ≡ exitsFrom (now (targets .entry)) (now (senders .entry)) (now (types .entry)) st ⌝ }
-{
-    let first = st.first as usize;
-    let exits = st.exits as usize;
-    let mut exit = records::no_exits();
-    let mut x: usize = 0;
-    while x < MOST_EXITS {
-        if exits <= x {
-            return exit;
-        }
-        exit[x] = exit_at(targets, senders, types, first + x);
-        x += 1;
-    }
-    exit
-}
 
 // The exits that a state has are right.
 fn exits_valid<'a>(
@@ -88,13 +35,10 @@ fn exits_valid<'a>(
     ensures { λ r. ⌜ r ≡ allBelow (exitValid n states (unpacked (now (targets .entry)) (now (senders .entry)) (now (types .entry)) st)) mostExits ⌝ }
 {
     let first = st.first as usize;
-    let exits = st.exits as usize;
+    let exits = unpacked::exits_of(st);
     let mut x: usize = 0;
-    while x < MOST_EXITS {
-        if exits <= x {
-            return true;
-        }
-        let e = exit_at(targets, senders, types, first + x);
+    while x < exits {
+        let e = unpacked::exit_no(targets, senders, types, first + x);
         if !both(
             rules::exit_fits(st.kind, e),
             rules::exit_reaches(n, states, e),
@@ -107,7 +51,7 @@ fn exits_valid<'a>(
 }
 
 // A state that is there, of a subject with so many states, with its exits, which begin at the given place.
-fn state_valid<'a>(
+fn stored_valid<'a>(
     targets: &'a [u8],
     senders: &'a [u8],
     types: &'a [u8],
@@ -118,9 +62,9 @@ fn state_valid<'a>(
 ) -> bool
     ensures { λ r. ⌜ r ≡ storedValid (now (targets .entry)) (now (senders .entry)) (now (types .entry)) n states place st ⌝ }
 {
-    let own = with_exits(st, records::no_exits());
+    let own = records::with_exits(st, records::blank_exits());
     if !both(
-        rules::state_right(n, states, own),
+        rules::state_fits_in(n, states, own),
         st.first as usize == place,
     ) {
         return false;
@@ -166,8 +110,11 @@ fn subject_own(n: u8, s: u8, sub: Subject, kind: u8) -> bool
     ensures { λ r. ⌜ r ≡ subjectOwn n s sub kind ⌝ }
 {
     if s < n {
-        let states = both(sets::is_within(1, sub.states, 32), sub.initial < sub.states);
-        return both(both(states, kind != 7), sub.rows <= 8);
+        let states = both(
+            sets::is_within(1, sub.states, MOST_STATES_U8),
+            sub.initial < sub.states,
+        );
+        return both(both(states, kind != END_KIND), sub.rows <= MOST_ROWS_U8);
     }
     both(both(sub.states == 0, sub.initial == 0), sub.rows == 0)
 }
@@ -238,6 +185,17 @@ fn none_after(k: usize, bytes: &[u8]) -> bool
     seen == 0
 }
 
+// So many exits have room, and after them the three lists have nothing.
+fn no_more<'a>(exits: usize, targets: &'a [u8], senders: &'a [u8], types: &'a [u8]) -> bool
+    ensures { λ r. ⌜ r ≡ (leb exits mostExitsInAll && (noneAfter exits (now (targets .entry)) && noneAfter exits (now (senders .entry)) && noneAfter exits (now (types .entry)))) ⌝ }
+{
+    if MOST_EXITS_IN_ALL < exits {
+        return false;
+    }
+    let places = both(none_after(exits, targets), none_after(exits, senders));
+    both(places, none_after(exits, types))
+}
+
 // The start mask names a subject, and none from n up.
 fn start_right(n: u8, start: u16) -> bool
     ensures { λ r. ⌜ r ≡ startRight n start ⌝ }
@@ -245,68 +203,31 @@ fn start_right(n: u8, start: u16) -> bool
     both(start != 0, sets::none_from(n, start))
 }
 
-// What is seen, put together.
-fn put_together(
-    valid: bool,
-    n: u8,
-    subjects: [Subject; MOST_SUBJECTS],
-    here: [State; MOST_SUBJECTS],
-    kinds: [u8; MOST_STATES],
-) -> Seen
-    ensures { λ r. ⌜ r ≡ record { valid = valid; n = n; subjects = subjects; here = here; kinds = kinds } ⌝ }
+// Whether some file loads to the model. All in one function: a model that is passed on is copied.
+pub fn is_valid(m: Model) -> bool
+    ensures { λ r. ⌜ r ≡ valid m ⌝ }
 {
-    Seen {
-        valid: valid,
-        n: n,
-        subjects: subjects,
-        here: here,
-        kinds: kinds,
-    }
-}
-
-// What a step has to see of a model: whether it is valid, its subjects, the state of each that has the number, and the kinds of
-// one subject's states. All in one function: a model that is passed on is copied.
-pub fn view(m: Model, numbers: [u8; MOST_SUBJECTS], subject: u8) -> Seen
-    ensures { λ r. ⌜ r ≡ viewOf m numbers subject ⌝ }
-{
-    let none = with_exits(m.states[0], records::no_exits());
-    let mut here = [none; MOST_SUBJECTS];
-    let mut j: usize = 0;
-    while j < MOST_SUBJECTS {
-        let st = m.states[j * MOST_STATES + (numbers[j] % 32) as usize];
-        let mut exit = records::no_exits();
-        if st.exits != 0 {
-            exit = exits_from(&m.targets, &m.senders, &m.types, st);
-        }
-        here[j] = with_exits(st, exit);
-        j += 1;
-    }
-    let from = (subject % 16) as usize * MOST_STATES;
-    let mut kinds = [0; MOST_STATES];
-    let mut i: usize = 0;
-    while i < MOST_STATES {
-        kinds[i] = m.states[from + i].kind;
-        i += 1;
-    }
     let n = m.n;
-    let subjects = m.subjects;
-    if !both(sets::is_within(1, n, 16), start_right(n, m.start)) {
-        return put_together(false, n, subjects, here, kinds);
+    if !both(
+        sets::is_within(1, n, MOST_SUBJECTS_U8),
+        start_right(n, m.start),
+    ) {
+        return false;
     }
     let mut exits: usize = 0;
     let mut s: usize = 0;
     while s < MOST_SUBJECTS {
         let sub = m.subjects[s];
-        let first = m.states[s * MOST_STATES + (sub.initial % 32) as usize];
+        let first = m.states[s * MOST_STATES + (sub.initial % MOST_STATES_U8) as usize];
         if !subject_valid(n, s as u8, sub, first.kind) {
-            return put_together(false, n, subjects, here, kinds);
+            return false;
         }
         let states = sub.states as usize;
         let mut t: usize = 0;
         while t < states {
             let st = m.states[s * MOST_STATES + t];
-            if !state_valid(&m.targets, &m.senders, &m.types, n, sub.states, exits, st) {
-                return put_together(false, n, subjects, here, kinds);
+            if !stored_valid(&m.targets, &m.senders, &m.types, n, sub.states, exits, st) {
+                return false;
             }
             exits += st.exits as usize;
             t += 1;
@@ -318,44 +239,9 @@ pub fn view(m: Model, numbers: [u8; MOST_SUBJECTS], subject: u8) -> Seen
             t += 1;
         }
         if own != 0 {
-            return put_together(false, n, subjects, here, kinds);
+            return false;
         }
         s += 1;
     }
-    if MOST_EXITS_IN_ALL < exits {
-        return put_together(false, n, subjects, here, kinds);
-    }
-    let targets = none_after(exits, &m.targets);
-    let senders = none_after(exits, &m.senders);
-    let types = none_after(exits, &m.types);
-    put_together(
-        both(both(targets, senders), types),
-        n,
-        subjects,
-        here,
-        kinds,
-    )
-}
-
-// Every state with its exits, for who looks at many.
-pub fn states(m: Model) -> [State; STATE_PLACES]
-    ensures { λ r. ⌜ r ≡ statesOf m ⌝ }
-{
-    let none = with_exits(m.states[0], records::no_exits());
-    let mut all = [none; STATE_PLACES];
-    let mut p: usize = 0;
-    while p < STATE_PLACES {
-        let st = m.states[p];
-        let exit = exits_from(&m.targets, &m.senders, &m.types, st);
-        all[p] = with_exits(st, exit);
-        p += 1;
-    }
-    all
-}
-
-// Whether some file loads to the model.
-pub fn is_valid(m: Model) -> bool
-    ensures { λ r. ⌜ r ≡ valid m ⌝ }
-{
-    view(m, [0; MOST_SUBJECTS], 0).valid
+    no_more(exits, &m.targets, &m.senders, &m.types)
 }

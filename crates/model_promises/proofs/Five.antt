@@ -1,7 +1,6 @@
 -- Refusal 5 is given for what it lists and for nothing else: where stages 1 to 4 pass, no rule that one record shows is left to break.
 use mathlib.Core.Path.{_≡_, refl, ap, _∙_}
 use mathlib.Core.Bool.{Bool, true, false, _&&_, not, cond}
-use mathlib.Core.List.{List}
 use Prim.Native.Nat.{ℕ, zero, suc, _+_, _*_, _/_, _<_}
 use borrow.Author.Tests.{ltb-true, ltb-false, le-leb, leb-true}
 use lib.Dec.{ltb, leb, eqb}
@@ -12,26 +11,19 @@ use Rattle.model.specs.Decoded.{modelOf, inPlace}
 use Rattle.model.specs.Loading.{acrossRight}
 use Rattle.model.specs.Rules.{stateReaches, exitReaches, rowReaches}
 use Rattle.model.specs.Valid.{subjectAt, stateAt, exitAt, rowAt, exitValid, stateOwn, stateValid, rowValid, subjectOwn, subjectValid, kindAt, subjectRight, stateRight, startRight, exitsInAll, valid}
+use Rattle.model.proofs.BlankLaws.{and-assoc, and-rest}
 use Rattle.model.specs.declared.Model.{Model}
 use Rattle.model.specs.declared.State.{State}
 use Rattle.model.specs.declared.Subject.{Subject}
 use Rattle.model_promises.specs.Across.{initialThere, rowsThere, stateThere, rowFive}
-use Rattle.model_promises.specs.Loads.{AreBytes, Passes1, Passes3, Passes4}
+use Rattle.model_promises.specs.Promises.{OnlyFive}
 use Rattle.model_promises.proofs.Shown.{Shown, ShownSubject, ShownState, shown}
 
 -- ---- tests
 
-and-end : {a b : Bool} → b ≡ true → (a && b) ≡ a
-and-end {a = true} h = h
-and-end {a = false} h = refl
-
 and-none : (a : Bool) → (a && false) ≡ false
 and-none true = refl
 and-none false = refl
-
-and-assoc : (a b c : Bool) → (a && (b && c)) ≡ (a && b && c)
-and-assoc true b c = refl
-and-assoc false b c = refl
 
 all-and : (p q : ℕ → Bool) (n : ℕ) → allBelow (λ i. p i && q i) n ≡ (allBelow p n && allBelow q n)
 unfolding allBelow
@@ -54,7 +46,7 @@ module _ {n s : ℕ} {sub : Subject} (g : ShownSubject n s sub) where
       go : (b : Bool) → ltb s n ≡ b → subjectOwn n s sub kind ≡ cond (ltb s n) (ltb (sub .initial) (sub .states) && not (eqb kind 7)) true
       go true e =
           let w = g .states (ltb-true s n e) in
-          rw (e, within-true (w .low) (w .high)) (and-end (le-leb (sub .rows) 8 (g .rows)))
+          rw (e, within-true (w .low) (w .high)) (and-rest _ _ (le-leb (sub .rows) 8 (g .rows)))
       go false e = rw e (g .gone (ltb-false s n e))
 
   row-left : (k : ℕ) → k < 8 → rowValid n sub k ≡ cond (ltb k (sub .rows)) (rowReaches n (rowAt sub k)) true
@@ -62,7 +54,7 @@ module _ {n s : ℕ} {sub : Subject} (g : ShownSubject n s sub) where
   row-left k l = go (ltb k (sub .rows)) refl
     where
       go : (b : Bool) → ltb k (sub .rows) ≡ b → rowValid n sub k ≡ cond (ltb k (sub .rows)) (rowReaches n (rowAt sub k)) true
-      go true e = let h = ltb-true k (sub .rows) e in rw (e, g .row k h) (and-end (g .ascends k h))
+      go true e = let h = ltb-true k (sub .rows) e in rw (e, g .row k h) (and-rest _ _ (g .ascends k h))
       go false e = rw e (g .blank k l (ltb-false k (sub .rows) e))
 
 module _ {states t : ℕ} {st : State} (g : ShownState states t st) (n : ℕ) where
@@ -96,7 +88,7 @@ module _ (m : Model) (g : Shown m) where
       let n = m .n in
       let states = subjectAt m (p / 32) .states in
       let h = g .state p l in
-      rw (state-left h n, all-same (exitValid n states (stateAt m p)) _ 8 (exit-left h n)) (and-end (g .first p l))
+      rw (state-left h n, all-same (exitValid n states (stateAt m p)) _ 8 (exit-left h n)) (and-rest _ _ (g .first p l))
 
   valid-left : valid m ≡ (startRight (m .n) (m .start) && allBelow (initialThere m) 16 && allBelow (rowsThere m) 16 && allBelow (stateThere m) 512 && leb (exitsInAll m) 1024)
   unfolding valid
@@ -105,7 +97,7 @@ module _ (m : Model) (g : Shown m) where
       let a = all-same (subjectRight m) (λ s. initialThere m s && rowsThere m s) 16 subject-left ∙ all-and (initialThere m) (rowsThere m) 16 in
       let b = all-same (stateRight m) (stateThere m) 512 state-right-left in
       rw (within-true (w .low) (w .high), a, b)
-      (and-end (g .no-more)
+      (and-rest _ _ (g .no-more)
       ∙ ap (λ (x : Bool). x && allBelow (stateThere m) 512 && leb (exitsInAll m) 1024)
       (and-assoc (startRight (m .n) (m .start)) (allBelow (initialThere m) 16) (allBelow (rowsThere m) 16)))
 
@@ -114,7 +106,7 @@ too-many : (m : Model) → leb (exitsInAll m) 1024 ≡ false → valid m ≡ fal
 unfolding valid
 too-many m h = rw (h, and-none)
 
-pub only-five : (file : List ℕ) → AreBytes file → Passes1 file → Passes3 file → Passes4 file → acrossRight file ≡ rowFive file
+pub only-five : OnlyFive
 unfolding rowFive
 only-five file bytes p1 p3 p4 = go (inPlace file) refl (leb (exitsInAll (modelOf file)) 1024) refl
   where

@@ -1,7 +1,6 @@
 -- What loads is valid, a valid model is loaded from its own file, and each verdict means what it says.
 use mathlib.Core.Path.{_≡_, refl, sym, ap, subst, _∙_}
 use mathlib.Core.Bool.{Bool, true, false, cond}
-use mathlib.Core.Logic.{_↔_}
 use mathlib.Core.List.{List}
 use Prim.Native.Nat.{ℕ, _/_, _%_, _<_}
 use native.Mathlib.Omega.{arith}
@@ -30,6 +29,7 @@ use Rattle.model.specs.declared.Subject.{Subject}
 use Rattle.blocks.specs.declared.Verdict.{Verdict}
 use Rattle.blocks.specs.declared.Verdict.the-variants.{Good, Length, Check, Block, Record, Across}
 use Rattle.model_promises.specs.Loads.{AreBytes, LoadsTo, Passes1, Passes2, Passes3, Passes4, FirstWrong, Means, wrong-length, wrong-check, wrong-block, wrong-record, wrong-across, all-right}
+use Rattle.model_promises.specs.Promises.{VerdictMeans, VerdictMeant, RefusedEmpty, LoadsValid, LoadsHeld, ValidLoads, ValidExactly}
 use Rattle.model_promises.proofs.Back.{model-back, place-back}
 use Rattle.model_promises.proofs.Facts.{model-good}
 use Rattle.model_promises.proofs.Lines.{sound}
@@ -41,7 +41,7 @@ use Rattle.model_promises.proofs.Right as right
 first-wrong : (p : ℕ → Bool) (file : List ℕ) (b : ℕ) → firstNot p (blocks file) ≡ At b → FirstWrong (λ a. p a ≡ true) (λ a. p a ≡ false) file b
 first-wrong p file b h = let f = first-is p (blocks file) b h in record { there = f .below; is-wrong = f .fails; before = f .before }
 
-pub means : (file : List ℕ) → Means file (loaded file .verdict)
+pub means : VerdictMeans
 unfolding loaded acrossOr
 means file = one (lengthRight file) refl
   where
@@ -71,7 +71,7 @@ means file = one (lengthRight file) refl
 first-at : (p : ℕ → Bool) (file : List ℕ) (b : ℕ) → FirstWrong (λ a. p a ≡ true) (λ a. p a ≡ false) file b → firstNot p (blocks file) ≡ At b
 first-at p file b w = first-found p b (blocks file) (first-by p b (w .before)) (w .is-wrong) (w .there)
 
-pub meant : (file : List ℕ) (v : Verdict) → Means file v → loaded file .verdict ≡ v
+pub meant : VerdictMeant
 unfolding loaded acrossOr
 meant file v (wrong-length e) = rw e
 meant file v (wrong-check {b} p1 w) = rw (p1, first-at (λ a. checkRight (blockOf file a)) file b w)
@@ -120,16 +120,14 @@ loading file m h = go (loaded file .verdict) (means file) (ap (λ (x : Loaded). 
     go v (all-right p1 p2 p3 p4 e) g =
         record { model = ap (λ (x : Loaded). x .model) (sym h ∙ good-model file p1 p2 p3 p4 e); across = e }
 
--- WHAT LOADS IS VALID
-pub loads-valid : (file : List ℕ) (m : Model) → LoadsTo file m → valid m ≡ true
+pub loads-valid : LoadsValid
 loads-valid file m h =
     let l = loading file m h in
     subst (λ (x : Model). valid x ≡ true) (sym (l .model)) (and-both (inPlace file) (valid (modelOf file)) (l .across) .right)
 
 -- ---- a valid model is loaded from its own file
 
--- A VALID MODEL IS LOADED FROM ITS OWN FILE
-pub valid-loads : (m : Model) → Held m → valid m ≡ true → AreBytes (fileOf m) × LoadsTo (fileOf m) m
+pub valid-loads : ValidLoads
 unfolding fileOf
 valid-loads m held ok =
     let good = model-good m ok in
@@ -170,15 +168,13 @@ model-held file h =
       afters = λ p l. rw (table-at (storedIn file) 512 p blankStored l) (state-after file p h);
     }
 
-pub loads-held : (file : List ℕ) (m : Model) → AreBytes file → LoadsTo file m → Held m
+pub loads-held : LoadsHeld
 loads-held file m b h = subst Held (sym (loading file m h .model)) (model-held file b)
 
--- A MODEL THAT THE MACHINE CAN HOLD IS VALID EXACTLY WHEN SOME FILE OF BYTES LOADS TO IT
-pub valid-exactly : (m : Model) → Held m → (valid m ≡ true) ↔ ((file : List ℕ) × AreBytes file × LoadsTo file m)
+pub valid-exactly : ValidExactly
 valid-exactly m held = (λ ok. let l = valid-loads m held ok in (fileOf m, l .0, l .1), λ f. loads-valid (f .0) m (f .2))
 
--- A FILE THAT IS REFUSED GIVES THE EMPTY MODEL
-pub refused-empty : (file : List ℕ) → (loaded file .verdict ≡ Good → ⊥) → loaded file .model ≡ emptyModel
+pub refused-empty : RefusedEmpty
 unfolding loaded acrossOr
 refused-empty file =
     choose P (lengthRight file)

@@ -1,10 +1,5 @@
 -- Every public call has one result: two results that its contract allows are equal. `Learnt` is the contract's ensures, as a caller has it.
-use mathlib.Core.Path.{_≡_, sym, _∙_}
-use mathlib.Core.List.{List}
-use Prim.Native.Nat.{ℕ}
-use borrow.Fn.Kinds.{PK, RK, Out, Dens, resT, endedOf}
-use contract.Lifetimes.{Lfts}
-use denote.Triple.Clauses.{AtExit}
+use mathlib.Core.Path.{sym, _∙_}
 use denote.Ref.{now}
 use Rattle.sets.proofs.both.Reads as both-call
 use Rattle.sets.proofs.both.Kinds as both-call-kinds
@@ -48,10 +43,8 @@ use Rattle.model.proofs.load.Reads as load-call
 use Rattle.model.proofs.load.Kinds as load-call-kinds
 use Rattle.model.proofs.is_valid.Reads as is-valid-call
 use Rattle.model.proofs.is_valid.Kinds as is-valid-call-kinds
-use Rattle.model.proofs.view.Reads as view-call
-use Rattle.model.proofs.states.Reads as states-call
-use Rattle.model.proofs.view.Kinds as view-call-kinds
-use Rattle.model.proofs.states.Kinds as states-call-kinds
+use Rattle.model.proofs.unpack.Reads as unpack-call
+use Rattle.model.proofs.unpack.Kinds as unpack-call-kinds
 use Rattle.sets.proofs.rest.Reads as rest-call
 use Rattle.sets.proofs.rest.Kinds as rest-call-kinds
 use Rattle.blocks.proofs.block.Reads as block-call
@@ -60,10 +53,7 @@ use Rattle.blocks.proofs.record.Reads as record-call
 use Rattle.blocks.proofs.record.Kinds as record-call-kinds
 use Rattle.blocks.proofs.record_from.Reads as record-from-call
 use Rattle.blocks.proofs.record_from.Kinds as record-from-call-kinds
-
--- a contract that allows one result at the most
-abbrev pub OneResult : (n : ℕ) (ps : List (PK n)) (r : RK n) → Out n ps r → Type 0
-OneResult n ps r Q = (κs : Lfts n) (a : Dens κs ps) (x y : resT r κs .Denot) (e : AtExit (endedOf n ps r) κs) → Q κs a x e → Q κs a y e → x ≡ y
+use Rattle.model_promises.specs.One.{OneResult, OnePart}
 
 -- ---- tests, bytes and masks
 
@@ -134,22 +124,19 @@ load-one κs a x y e p q = p ∙ sym q
 pub is-valid-one : OneResult 0 is-valid-call-kinds.ps is-valid-call-kinds.r is-valid-call.Learnt
 is-valid-one κs a x y e p q = p ∙ sym q
 
-pub view-one : OneResult 0 view-call-kinds.ps view-call-kinds.r view-call.Learnt
-view-one κs a x y e p q = p ∙ sym q
-
-pub states-one : OneResult 0 states-call-kinds.ps states-call-kinds.r states-call.Learnt
-states-one κs a x y e p q = p ∙ sym q
+pub unpack-one : OneResult 1 unpack-call-kinds.ps unpack-call-kinds.r unpack-call.Learnt
+unpack-one κs a x y e p q = p ∙ sym q
 
 -- ---- a part of the caller's slice: the bytes are fixed, and the part is the caller's own
 
-pub rest-one : (κs : Lfts 1) (a : Dens κs rest-call-kinds.ps) (x y : resT rest-call-kinds.r κs .Denot) (e : AtExit (endedOf 1 rest-call-kinds.ps rest-call-kinds.r) κs) → rest-call.Learnt κs a x e → rest-call.Learnt κs a y e → now x ≡ now y
+pub rest-one : OnePart 1 rest-call-kinds.ps rest-call-kinds.r (λ κs x. now x) rest-call.Learnt
 rest-one κs a x y e p q = p ∙ sym q
 
-pub block-one : (κs : Lfts 1) (a : Dens κs block-call-kinds.ps) (x y : resT block-call-kinds.r κs .Denot) (e : AtExit (endedOf 1 block-call-kinds.ps block-call-kinds.r) κs) → block-call.Learnt κs a x e → block-call.Learnt κs a y e → now x ≡ now y
+pub block-one : OnePart 1 block-call-kinds.ps block-call-kinds.r (λ κs x. now x) block-call.Learnt
 block-one κs a x y e p q = p ∙ sym q
 
-pub record-one : (κs : Lfts 1) (a : Dens κs record-call-kinds.ps) (x y : resT record-call-kinds.r κs .Denot) (e : AtExit (endedOf 1 record-call-kinds.ps record-call-kinds.r) κs) → record-call.Learnt κs a x e → record-call.Learnt κs a y e → now x ≡ now y
+pub record-one : OnePart 1 record-call-kinds.ps record-call-kinds.r (λ κs x. now x) record-call.Learnt
 record-one κs a x y e p q = p ∙ sym q
 
-pub record-from-one : (κs : Lfts 1) (a : Dens κs record-from-call-kinds.ps) (x y : resT record-from-call-kinds.r κs .Denot) (e : AtExit (endedOf 1 record-from-call-kinds.ps record-from-call-kinds.r) κs) → record-from-call.Learnt κs a x e → record-from-call.Learnt κs a y e → now x ≡ now y
+pub record-from-one : OnePart 1 record-from-call-kinds.ps record-from-call-kinds.r (λ κs x. now x) record-from-call.Learnt
 record-from-one κs a x y e p q = p ∙ sym q

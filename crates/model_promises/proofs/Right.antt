@@ -13,8 +13,8 @@ use Rattle.sets.proofs.Tests.{and-true, within-true}
 use Rattle.sets.proofs.Below.{table-at, length-table, all-by, sum-has}
 use Rattle.sets.proofs.Groups.{spot, line-ascends}
 use Rattle.blocks.specs.Blocks.{blocks, usedOf, recordOf, recordNo}
-use Rattle.model.specs.Records.{blankExits, stateOf, exitOf, rowOf, stateKey, orderOf}
-use Rattle.model.specs.Rules.{stateFits, exitFits, rowFits}
+use Rattle.model.specs.Records.{blankExits, stateOf, storedOf, withExits, exitOf, rowOf, stateKey, orderOf}
+use Rattle.model.specs.Rules.{shapeOf, stateFits, exitFits, rowFits}
 use Rattle.model.specs.Stages.{recordBefore, ownKind, headerRight, exitRight, limitRight, fieldsRight, recordRight, recordsRight}
 use Rattle.model.specs.Valid.{subjectAt, stateAt, exitAt, rowAt, rowKey, rowAscends, Held}
 use Rattle.model.specs.File.{headerRecord, subjectRecord, stateRecord, exitRecord, limitRecord, headers, stateRecords, exitRecords, limitRecords, recordsOf}
@@ -34,7 +34,7 @@ use Rattle.model_promises.proofs.Pieces.{zeros}
 
 -- the exits of a state are no matter to the rule for its fields
 state-fields : (s t : ℕ) (st : State) → stateFits st ≡ true → stateFits (stateOf (stateRecord s t st) blankExits) ≡ true
-unfolding stateFits stateOf
+unfolding stateFits shapeOf stateOf withExits storedOf
 state-fields s t st h = rw (word-back (st .after), word-back (st .receivers)) h
 
 exit-fields : (kind s t x : ℕ) (e : Exit) → exitFits kind e ≡ true → exitRight kind (exitRecord s t x e) ≡ true

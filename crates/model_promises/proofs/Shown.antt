@@ -95,7 +95,7 @@ placed file h =
 
 -- the exits of a state are no matter to the rule for its fields
 any-exits : (r : List ℕ) (es : List Exit) → stateFits (stateOf r blankExits) ≡ true → stateFits (stateOf r es) ≡ true
-unfolding stateFits stateOf
+unfolding stateFits stateOf withExits
 any-exits r es h = h
 
 -- kind 0 has room for no number of exits
@@ -263,7 +263,7 @@ module _ (file : List ℕ) (bytes : AreBytes file) (p1 : Passes1 file) (p3 : Pas
       any-exits _ es (state-right file (recordNo file 2 (stateNo s t)) (fields-right file p1 p3 p4 2 (stateNo s t) (omega arith) (state-place s t l h)))
 
   kind-not-zero : (s t : ℕ) → s < 16 → t < statesIn file s → getD (recordNo file 2 (stateNo s t)) 2 0 ≡ 0 → ⊥
-  unfolding stateOf
+  unfolding stateOf withExits storedOf
   kind-not-zero s t l h = kind-some (stateOf (recordNo file 2 (stateNo s t)) blankExits) (state-fits s t l h blankExits)
 
   -- ---- exits

@@ -8,13 +8,12 @@ use Rattle.sets.specs.Below.{allBelow, sumBelow, tableFrom}
 use Rattle.sets.specs.Groups.{inPlaces}
 use Rattle.sets.proofs.Below.{all-each}
 use Rattle.sets.proofs.Tests.{and-both}
-use Rattle.model.specs.File.{fileOf}
 use Rattle.model.specs.Records.{withExits}
 use Rattle.model.specs.Rules.{shapeOf, namesFit, stateFits, exitFits, rowFits, stateReaches, exitReaches, rowReaches}
 use Rattle.model.specs.Sizes.{mostSubjects, statePlaces, mostExitsInAll, mostRows}
 use Rattle.model.specs.Valid.{subjectAt, storedAt, isBlankState, exitValid, stateOwn, stateValid, rowValid, subjectOwn, subjectValid, subjectRight, exitsFrom, firstRight, stateRight, exitsInAll, noneAfter, noMoreExits, valid, Held}
 use Rattle.model.specs.declared.Model.{Model}
-use Rattle.model_promises.specs.Loads.{AreBytes, LoadsTo}
+use Rattle.model_promises.specs.Promises.{PLoads}
 use Rattle.model_promises.specs.Samples.{modelP}
 use Rattle.model_promises.proofs.Loads.{valid-loads}
 
@@ -53,5 +52,5 @@ pub p-held : Held modelP
 unfolding modelP allBelow fitsMachine
 p-held = fits-held modelP refl
 
-pub p-loads : AreBytes (fileOf modelP) × LoadsTo (fileOf modelP) modelP
+pub p-loads : PLoads
 p-loads = valid-loads modelP p-held p-valid

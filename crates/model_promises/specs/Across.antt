@@ -5,7 +5,7 @@ use Prim.Native.Nat.{ℕ, _+_, _*_, _/_, _%_}
 use lib.Dec.{ltb, leb, eqb}
 use Rattle.sets.specs.Below.{allBelow}
 use Rattle.model.specs.Decoded.{modelOf, inPlace}
-use Rattle.model.specs.Rules.{stateReaches, exitReaches, rowReaches}
+use Rattle.model.specs.Rules.{endKind, stateReaches, exitReaches, rowReaches}
 use Rattle.model.specs.Sizes.{mostSubjects, mostStates, statePlaces, mostExits, mostExitsInAll, mostRows}
 use Rattle.model.specs.Valid.{subjectAt, stateAt, exitAt, rowAt, kindAt, startRight, exitsInAll}
 use Rattle.model.specs.declared.Model.{Model}
@@ -14,7 +14,7 @@ use Rattle.model.specs.declared.Model.{Model}
 unfoldable pub initialThere : Model → ℕ → Bool
 initialThere m s =
     cond (ltb s (m .n))
-    (ltb (subjectAt m s .initial) (subjectAt m s .states) && not (eqb (kindAt (m .states) (s * mostStates + subjectAt m s .initial)) 7))
+    (ltb (subjectAt m s .initial) (subjectAt m s .states) && not (eqb (kindAt (m .states) (s * mostStates + subjectAt m s .initial)) endKind))
     true
 
 -- the sender of every row of subject s exists

@@ -1,3 +1,5 @@
 pub mod Loads
 pub mod Samples
 pub mod Across
+pub mod Promises
+pub mod One

@@ -1,7 +1,8 @@
 -- Lists that stand for arrays.
 use mathlib.Core.Path.{_≡_, sym, _∙_}
 use mathlib.Core.List.{List, [], _∷_, map}
-use Prim.Native.Nat.{ℕ, zero, suc}
+use Prim.Native.Nat.{ℕ, zero, suc, _<_}
+use native.Mathlib.Nat.{le-of-suc-le-suc, not-suc-le-zero}
 use lib.ListN.{length, getD, length-map}
 use mir.Val.{Val}
 use base.Fml.{Fml}
@@ -19,3 +20,11 @@ each-holds P to own d z h [] us s i = z
 each-holds P to own d z h (x ∷ xs) [] s i = absurd s
 each-holds P to own d z h (x ∷ xs) (u ∷ us) s zero = h x u (s .0)
 each-holds P to own d z h (x ∷ xs) (u ∷ us) s (suc i) = each-holds P to own d z h xs us (s .1) i
+
+-- what is known of each element of an array, at one of them
+pub each-at : {A : Type 0} (d : Type 0) (f : d → List Val → Fml) (g : A → d) (xs : List A) (us : List Val) → shadow (each d f (map g xs) us)
+    → (k : ℕ) (z : A) → k < length xs → (u : Val) × shadow (f (g (getD xs k z)) (u ∷ []))
+each-at d f g [] us h k z l = absurd (not-suc-le-zero l)
+each-at d f g (x ∷ xs) [] h k z l = absurd h
+each-at d f g (x ∷ xs) (u ∷ us) h zero z l = (u, h .0)
+each-at d f g (x ∷ xs) (u ∷ us) h (suc k) z l = each-at d f g xs us (h .1) k z (le-of-suc-le-suc l)

@@ -5,17 +5,20 @@
 // is given: 1 as a command, 2 with a model that is not valid, 3 with a configuration that is not valid, 4 after a tape of
 // as many such commands as the exit byte says, any other coded. After 2 and 3 the run goes on from the configuration before.
 //
-// For each tape its name, a line for each command, and a line with what the whole tape gives in one call.
-ghost use Prim.Native.Nat.{_+_, _≤_};
+// For each tape its name, a line for each command, and a line with what the whole tape gives in one call: the refusal, and what
+// the buffer then holds. It has 7 at each place before, and just enough places. The fourth byte of the first command says how
+// the whole tape is given, if it is 16 or a little more: 1 more with a model that is not valid, 2 more with a configuration
+// that is not valid, 4 more with a buffer of one place less.
+ghost use Prim.Native.Nat.{_+_, _*_, _/_, _≤_};
 ghost use lib.ListN.{length};
-use configs::Answer;
-use configs::Config;
-use configs::Stepped;
-use configs::Subject;
+use engine::Answer;
 use engine::Command;
+use engine::Config;
+use engine::Pool;
+use engine::Stepped;
+use engine::Subject;
 use libc::STDOUT_FILENO;
 use model::Model;
-use pools::Pool;
 
 // A model file has at most 43 blocks of 512 bytes.
 const FILE: usize = 43 * 512;
@@ -285,12 +288,69 @@ fn write_numbers(numbers: &[u32], count: usize) {
     }
 }
 
-// The whole tape once more, in one call: refusal, state, word and entries for each command.
-fn run_whole(m: Model, fresh: Config, tape: &[u8]) {
-    let mut answers = [0u32; ANSWERS];
-    engine::run(m, fresh, tape, &mut answers);
+// How the whole tape is given: 0, or what is added to 16 in the fourth byte.
+fn wrong_in(tape: &[u8]) -> u8 {
+    if tape.len() < 4 {
+        return 0;
+    }
+    if tape[3] / 8 == 2 { tape[3] % 8 } else { 0 }
+}
+
+fn model_given(m: Model, wrong: u8) -> Model {
+    if wrong % 2 == 1 {
+        return without_subjects(m);
+    }
+    m
+}
+
+fn config_given(c: Config, wrong: u8) -> Config {
+    if wrong / 2 % 2 == 1 {
+        return spoilt(c);
+    }
+    c
+}
+
+// The places of the buffer that are lent: four for each command, or one less.
+fn room_given(bytes: usize, wrong: u8) -> usize
+    ensures { λ r. ⌜ r ≤ bytes / 8 * 4 ⌝ }
+{
+    let all = bytes / 8 * 4;
+    if wrong / 4 == 0 {
+        return all;
+    }
+    if all == 0 {
+        return 0;
+    }
+    all - 1
+}
+
+// The refusal of a tape run in one call, with the first places of a buffer.
+fn refusal_of(m: Model, c: Config, tape: &[u8], numbers: &mut [u32], end: usize) -> u8
+    requires { ⌜ end ≤ length (now numbers) ⌝ }
+{
+    let lent = &mut numbers[0..end];
+    let stepped = engine::run(m, c, tape, lent);
+    let answer = stepped.answer;
+    engine::refusal(answer)
+}
+
+// The whole tape once more, in one call: its refusal; then refusal, state, word and entries for each command.
+fn run_whole(m: Model, fresh: Config, tape: &[u8])
+    requires { ⌜ length (now tape) ≤ 4096 ⌝ }
+{
+    let mut numbers = [7u32; ANSWERS];
+    let wrong = wrong_in(tape);
+    let end = room_given(tape.len(), wrong);
+    let refusal = refusal_of(
+        model_given(m, wrong),
+        config_given(fresh, wrong),
+        tape,
+        &mut numbers,
+        end,
+    );
     io::write_all(STDOUT_FILENO, b"tape");
-    write_numbers(&answers, tape.len() / 8 * 4);
+    number(refusal as u64);
+    write_numbers(&numbers, tape.len() / 8 * 4);
     io::write_all(STDOUT_FILENO, b"\n");
 }
 

@@ -1,20 +1,29 @@
-use mathlib.Core.Path.{_≡_, ap, _∙_}
+use mathlib.Core.Path.{_≡_, refl, sym, ap, _∙_}
 use borrow.Author.Needs.{needs}
-use Rattle.configs.specs.Fresh.{freshOf}
+use Rattle.blocks.specs.Verdicts as verdicts
 use Rattle.model.specs.declared.Loaded.{Loaded}
-use Rattle.exported.specs.Calls.{modelIn}
+use Rattle.model.specs.Loading.{loaded}
+use Rattle.engine.specs.configs.Fresh.{freshOf}
+use Rattle.exported.proofs.CallLaws.{fresh-refused, fresh-short, fresh-done}
 use Rattle.exported.proofs.zs_fresh.Statement.{statement}
 use Rattle.exported.proofs.zs_fresh.Tie as tie
 
--- what the engine's call gives
-started : (c : tie.After-fresh) → c .fresh .result ≡ freshOf (modelIn (c .before .before .before .before .before .args .file .now))
-started c = c .fresh .ensures ∙ ap (λ (x : Loaded). freshOf (x .model)) (c .before .before .load .ensures)
+-- the loader's refusal
+verdict : (c : tie.After-refusal) → c .refusal .result ≡ verdicts.refusalOf (loaded (c .before .before .before .before .args .file .now) .verdict)
+verdict c = c .refusal .ensures ∙ ap (λ (x : Loaded). verdicts.refusalOf (x .verdict)) (c .before .load .ensures)
 
 returns : tie.Need-returns
-returns c =
-    let put = c .before .before .before in
-    let start = started (put .before .before .before) in
-    (rw (← start) (c .refusal .ensures), rw (← start) (put .put-config .ensures))
+returns c = fresh-refused _ _ _ (verdict (c .before)) (c .if1 .taken)
+
+returns-2 : tie.Need-returns-2
+returns-2 c = fresh-short _ _ _ (verdict (c .before .before)) (c .before .if1 .left) (c .if2 .taken)
+
+returns-3 : tie.Need-returns-3
+returns-3 c =
+    let fresh = c .before .before .before .before .before in
+    let if2 = fresh .before .before in
+    let refusal = if2 .before .before in
+    fresh-done _ _ _ (verdict refusal) (if2 .before .if1 .left) (if2 .if2 .left) _ _ (fresh .fresh .ensures ∙ ap (λ (x : Loaded). freshOf (x .model)) (refusal .before .load .ensures)) (c .before .before .put-config .ensures)
 
 pub zs-fresh-spec : {M : Type 1} → statement M
 zs-fresh-spec =
@@ -22,7 +31,9 @@ zs-fresh-spec =
     (tie.spec
     (λ c κs. search needs)
     (λ c κs. search needs)
+    returns
+    returns-2
     (λ c κs. search needs)
     (λ c κs. search needs)
     (λ c. search needs)
-    returns)
+    returns-3)

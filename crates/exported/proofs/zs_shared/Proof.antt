@@ -1,6 +1,7 @@
 use mathlib.Core.Path.{_≡_, sym, ap, _∙_}
 use borrow.Author.Needs.{needs}
-use Rattle.configs.specs.Shares.{shareOf}
+use Rattle.engine.specs.pools.Sizes.{mostEntries}
+use Rattle.engine.specs.configs.Shares.{shareOf}
 use Rattle.model.specs.declared.Loaded.{Loaded}
 use Rattle.exported.specs.Calls.{modelIn, shareNumber}
 use Rattle.exported.proofs.zs_shared.Statement.{statement}
@@ -8,10 +9,10 @@ use Rattle.exported.proofs.zs_shared.Tie as tie
 
 -- what the engine's call gives
 asked : (c : tie.After-shared-out)
-    → shareNumber (c .shared-out .result) ≡ shareNumber (shareOf (modelIn (c .before .before .before .before .args .file .now)) (c .before .before .before .before .args .owner))
+    → shareNumber (c .shared-out .result) ≡ shareNumber (shareOf mostEntries (modelIn (c .before .before .before .before .args .file .now)) (c .before .before .before .before .args .owner))
 asked c =
     ap shareNumber
-    (c .shared-out .ensures ∙ ap (λ (x : Loaded). shareOf (x .model) (c .before .before .before .before .args .owner)) (c .before .before .load .ensures))
+    (c .shared-out .ensures ∙ ap (λ (x : Loaded). shareOf mostEntries (x .model) (c .before .before .before .before .args .owner)) (c .before .before .load .ensures))
 
 returns : tie.Need-returns
 returns c = sym (ap shareNumber (c .enum-told .given .1)) ∙ asked (c .before .before)

@@ -1,7 +1,7 @@
-use mathlib.Core.Path.{_≡_, ap, _∙_}
+use mathlib.Core.Path.{_≡_, refl, sym, ap, _∙_}
 use Prim.Native.Nat.{_*_, _-_, _≤_}
 use borrow.Author.Needs.{needs}
-use lib.ListN.{replicate}
+use lib.ListN.{drop, replicate}
 use Rattle.sets.specs.Below.{filled}
 use Rattle.sets.proofs.Below.{fill-start, fill-turn, fill-end}
 use Rattle.exported.specs.Bytes.{subjectFrom, configFrom}
@@ -9,7 +9,7 @@ use Rattle.exported.proofs.config_bytes.config_from.Statement.{statemen
 use Rattle.exported.proofs.config_bytes.config_from.Tie as tie
 
 abbrev Inv-loop : tie.InvT-loop
-Inv-loop b subjects₀ s₀ subjects s = (s ≤ 16) × (subjects ≡ filled (λ k. subjectFrom b (187 * k)) (subjectFrom b 0) 16 s)
+Inv-loop b subjects₀ s₀ subjects s = (s ≤ 16) × (subjects ≡ filled (λ k. subjectFrom (drop (187 * k) b)) (subjectFrom b) 16 s)
 
 abbrev μ-loop : tie.MeasureT-loop
 μ-loop b subjects₀ s₀ subjects s = 16 - s
@@ -19,8 +19,9 @@ loop-holds c = (search needs, ap (replicate 16) (c .subject-from .ensures) ∙ f
 
 loop-again : tie.Need-loop-again Inv-loop μ-loop
 loop-again c =
-    let inv = c .before .before .loop .inv in
-    (search needs, rw (inv .1) (fill-turn _ _ _ _ _ (c .before .loop-test .taken) (c .subject-from2 .ensures)))
+    let test = c .before .before in
+    let inv = test .before .loop .inv in
+    (search needs, rw (inv .1) (fill-turn _ _ _ _ _ (test .loop-test .taken) (c .subject-from2 .ensures ∙ ap subjectFrom (c .before .rest .ensures))))
 
 returns : tie.Need-returns Inv-loop μ-loop
 unfolding configFrom
@@ -38,6 +39,7 @@ config-from-spec =
     (λ c κs. search needs)
     loop-holds
     (λ c. search needs)
+    (λ c κs. search needs)
     (λ c κs. search needs)
     (λ c. search needs)
     (λ c. search needs)

@@ -1,41 +1,40 @@
-use mathlib.Core.Path.{_≡_, refl, _∙_}
-use Prim.Native.Nat.{_/_, _%_, _-_, _≤_, _<_}
+use mathlib.Core.Path.{_≡_, refl, sym, ap, _∙_}
+use Prim.Native.Nat.{ℕ, _+_, _*_, _-_, _≤_}
 use native.Mathlib.Omega.{arith}
 use borrow.Author.Needs.{needs}
-use lib.ListN.{length}
-use Rattle.configs.specs.Subjects.{at}
-use Rattle.exported.specs.Bytes.{subjectByte, configBytes}
-use Rattle.exported.proofs.ByteLaws.{begun, begun-start, begun-turn, begun-end, begun-short}
+use lib.ListN.{length, getD, set, length-set}
+use Rattle.engine.specs.configs.Subjects.{at}
+use Rattle.exported.specs.Bytes.{eachOf, stored, subjectBytes, configBytes}
+use Rattle.exported.proofs.ByteLaws.{length-subject, each-start, each-turn, each-end}
 use Rattle.exported.proofs.config_bytes.put_config.Statement.{statement}
 use Rattle.exported.proofs.config_bytes.put_config.Tie as tie
 
 abbrev Inv-loop : tie.InvT-loop
-Inv-loop room₀ c j₀ room j = (j ≤ 2992) × (room ≡ begun (λ k. subjectByte (at c (k / 187)) (k % 187)) room₀ j) × (length room ≡ length room₀)
+Inv-loop room₀ c s₀ room s = (s ≤ 16) × (length room ≡ length room₀) × (room ≡ stored room₀ 0 (eachOf (λ k. subjectBytes (at c k)) s))
 
 abbrev μ-loop : tie.MeasureT-loop
-μ-loop room₀ c j₀ room j = 2992 - j
-
-returns : tie.Need-returns Inv-loop μ-loop
-unfolding configBytes
-returns c = begun-short _ _ _ (c .if1 .taken)
+μ-loop room₀ c s₀ room s = 16 - s
 
 loop-holds : tie.Need-loop-holds Inv-loop μ-loop
-loop-holds c = (search needs, begun-start _ _, refl)
+loop-holds c = (search needs, refl, each-start _ 187 (λ k. length-subject _) _ _)
+
+put-subject-requires : tie.Need-put-subject-requires Inv-loop μ-loop
+put-subject-requires c κs = omega (arith, c .before .before .before .loop .inv .1, c .before .before .before .before .before .pre, c .before .before .loop-test .taken)
 
 loop-again : tie.Need-loop-again Inv-loop μ-loop
 loop-again c =
-    let turn = c .before .before .before in
-    let room : turn .loop .j < length (turn .before .before .before .args .room .now) = omega (arith, c .before .before .loop-test .taken, turn .before .if1 .left) in
-    (search needs, begun-turn _ _ _ _ _ room (turn .loop .inv .1) (c .subject-byte .ensures), search needs)
+    let put = c .before .before in
+    let inv = c .before .before .before .before .before .before .loop .inv in
+    (search needs, put .put-subject .kept .0 ∙ inv .1, each-turn _ 187 (λ k. length-subject _) _ _ _ _ _ _ (omega arith) (inv .2) (put .put-subject .ensures))
 
 same-length : tie.Need-same-length Inv-loop μ-loop
-same-length c = c .before .loop .inv .2
+same-length c = c .before .loop .inv .1
 
-returns-2 : tie.Need-returns-2 Inv-loop μ-loop
+returns : tie.Need-returns Inv-loop μ-loop
 unfolding configBytes
-returns-2 c =
+returns c =
     let inv = c .before .loop .inv in
-    inv .1 ∙ begun-end _ _ _ _ (inv .0) (c .loop-test .left) (c .before .before .if1 .left)
+    each-end _ _ _ _ _ 16 (inv .0) (c .loop-test .left) (inv .2)
 
 pub put-config-spec : {M : Type 1} → statement M
 put-config-spec =
@@ -43,14 +42,13 @@ put-config-spec =
     (tie.spec
     Inv-loop
     μ-loop
-    returns
     loop-holds
     (λ c. search needs)
     (λ c. search needs)
-    (λ c κs. search needs)
     (λ c. search needs)
+    put-subject-requires
     (λ c. search needs)
     (λ c. search needs)
     loop-again
     same-length
-    returns-2)
+    returns)

@@ -20,7 +20,7 @@ abbrev μ-loop : tie.MeasureT-loop
 μ-loop file first place rows row₀ k₀ row k = 8 - k
 
 loop-holds : tie.Need-loop-holds Inv-loop μ-loop
-loop-holds c = (search needs, c .no-rows .ensures ∙ fill-start _ _ _)
+loop-holds c = (search needs, c .blank-rows .ensures ∙ fill-start _ _ _)
 
 loop-again : tie.Need-loop-again Inv-loop μ-loop
 loop-again c =

@@ -23,7 +23,7 @@ abbrev μ-loop : tie.MeasureT-loop
 
 loop-holds : tie.Need-loop-holds Inv-loop μ-loop
 loop-holds c =
-    (search needs, sym (sum-start _), sym (sum-start _), ap (replicate 512) (c .no-state .ensures) ∙ fill-start _ _ _)
+    (search needs, sym (sum-start _), sym (sum-start _), ap (replicate 512) (c .blank-stored .ensures) ∙ fill-start _ _ _)
 
 start-few : (c : tie.At-loop Inv-loop μ-loop) → c .loop .start ≤ 4080
 start-few c =

@@ -20,7 +20,7 @@ abbrev μ-loop : tie.MeasureT-loop
 μ-loop file first count n subjects₀ place₀ s₀ subjects place s = 16 - s
 
 loop-holds : tie.Need-loop-holds Inv-loop μ-loop
-loop-holds c = (search needs, sym (sum-start _), ap (replicate 16) (c .no-subject .ensures) ∙ fill-start _ _ _)
+loop-holds c = (search needs, sym (sum-start _), ap (replicate 16) (c .blank-subject .ensures) ∙ fill-start _ _ _)
 
 place-few : (c : tie.At-loop Inv-loop μ-loop) → c .loop .place ≤ 128
 place-few c =
@@ -30,8 +30,8 @@ rows-in-requires : tie.Need-rows-in-requires Inv-loop μ-loop
 rows-in-requires c κs =
     (c .before .before .before .before .before .before .first-block .ensures, c .before .before .before .before .before .count-of .ensures)
 
-subject-requires : tie.Need-subject-requires Inv-loop μ-loop
-subject-requires c κs =
+subject-in-requires : tie.Need-subject-in-requires Inv-loop μ-loop
+subject-in-requires c κs =
     let at = c .before .before in
     let n = at .before .before in
     (rw (n .before .«record» .ensures) at (n .byte .ensures), search needs, c .rows-in .ensures, n .before .before .before .first-block .ensures, at .loop .inv .1, omega (arith, place-few at))
@@ -42,7 +42,7 @@ add-place c = omega (arith, place-few (c .before .before .before))
 loop-again : tie.Need-loop-again Inv-loop μ-loop
 loop-again c =
     let inv = c .before .before .before .loop .inv in
-    (search needs, sum-turn _ _ _ _ (inv .1) (c .before .rows-in .ensures), rw (inv .2) (fill-turn _ _ _ _ _ (c .before .before .loop-test .taken) (c .subject .ensures)))
+    (search needs, sum-turn _ _ _ _ (inv .1) (c .before .rows-in .ensures), rw (inv .2) (fill-turn _ _ _ _ _ (c .before .before .loop-test .taken) (c .subject-in .ensures)))
 
 returns : tie.Need-returns Inv-loop μ-loop
 returns c =
@@ -62,7 +62,7 @@ subjects-spec =
     (λ c κs. search needs)
     loop-holds
     rows-in-requires
-    subject-requires
+    subject-in-requires
     (λ c. search needs)
     (λ c. search needs)
     (λ c. search needs)

@@ -42,7 +42,7 @@ returns-5 c =
     let checks = sym (c .before .before .before .before .before .before .before .before .before .first-bad-check .ensures) ∙ c .before .before .before .before .before .before .before .enum-told .given .1 in
     let blocks = sym (c .before .before .before .before .before .before .first-bad-block .ensures) ∙ c .before .before .before .before .enum-told2 .given .1 in
     let records = sym (c .before .before .before .first-bad-record .ensures) ∙ c .before .enum-told3 .given .1 in
-    rw (length, checks, blocks, records) (c .across .ensures)
+    rw (length, checks, blocks, records) (c .across-or .ensures)
 
 pub load-spec : {M : Type 1} → statement M
 load-spec =

@@ -1,32 +1,11 @@
-use Rattle.model.specs.Records.{stateOf}
 use borrow.Author.Needs.{needs}
+use Rattle.model.specs.Records.{stateOf}
 use Rattle.model.proofs.records.state_of.Statement.{statement}
 use Rattle.model.proofs.records.state_of.Tie as tie
 
 returns : tie.Need-returns
 unfolding stateOf
-returns c =
-    let cancel = c .before .before .before in
-    let after = cancel .before .before in
-    let typ = after .before .before .before in
-    rw (c .word2 .ensures, c .before .byte10 .ensures, c .before .before .byte9 .ensures, cancel .byte8 .ensures, cancel .before .byte7 .ensures)
-    (rw (after .word .ensures, after .before .byte6 .ensures, after .before .before .byte5 .ensures)
-    (rw (typ .byte4 .ensures, typ .before .byte3 .ensures, typ .before .before .byte2 .ensures, typ .before .before .before .byte .ensures)))
+returns c = rw (c .with-exits .ensures, c .before .stored-of .ensures)
 
 pub state-of-spec : {M : Type 1} → statement M
-state-of-spec =
-    tie.close
-    (tie.spec
-    (λ c κs. search needs)
-    (λ c κs. search needs)
-    (λ c κs. search needs)
-    (λ c κs. search needs)
-    (λ c κs. search needs)
-    (λ c κs. search needs)
-    (λ c κs. search needs)
-    (λ c κs. search needs)
-    (λ c κs. search needs)
-    (λ c κs. search needs)
-    (λ c κs. search needs)
-    (λ c κs. search needs)
-    returns)
+state-of-spec = tie.close (tie.spec (λ c κs. search needs) (λ c κs. search needs) returns)

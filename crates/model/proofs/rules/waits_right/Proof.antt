@@ -5,7 +5,7 @@ use Rattle.model.proofs.rules.waits_right.Tie as tie
 returns : tie.Need-returns
 returns c =
     let targets = c .before in
-    rw (c .both2 .ensures, targets .both .ensures, targets .before .there-or-any2 .ensures, targets .before .before .there-or-any .ensures, targets .before .before .before .same .ensures)
+    rw (c .both2 .ensures, targets .both .ensures, targets .before .there-or-none2 .ensures, targets .before .before .there-or-none .ensures, targets .before .before .before .same .ensures)
 
 pub waits-right-spec : {M : Type 1} → statement M
 waits-right-spec =

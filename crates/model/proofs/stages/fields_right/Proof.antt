@@ -9,7 +9,7 @@ use Rattle.model.proofs.stages.fields_right.Tie as tie
 
 returns : tie.Need-returns
 unfolding fieldsRight
-returns c = rw (eq-eqb _ _ (c .before .before .before .if1 .taken), c .state-fits .ensures, c .before .state-of .ensures, c .before .before .no-exits .ensures)
+returns c = rw (eq-eqb _ _ (c .before .before .before .if1 .taken), c .state-fits .ensures, c .before .state-of .ensures, c .before .before .blank-exits .ensures)
 
 returns-2 : tie.Need-returns-2
 unfolding fieldsRight

@@ -18,7 +18,7 @@ returns-2 c =
     let test = c .before .before .before .before .before in
     let byte = test .before .before in
     let kind = rw (byte .before .block .ensures) at (byte .byte .ensures) in
-    rw (ne-eqb _ _ (rw kind at (test .if1 .left)), c .both .ensures, c .before .fields-right .ensures, c .before .before .order2 .ensures, c .before .before .before .order .ensures, c .before .before .before .before .record-before .ensures, test .before .«record» .ensures, kind)
+    rw (ne-eqb _ _ (rw kind at (test .if1 .left)), c .both .ensures, c .before .fields-right .ensures, c .before .before .order-of2 .ensures, c .before .before .before .order-of .ensures, c .before .before .before .before .record-before .ensures, test .before .«record» .ensures, kind)
 
 pub record-right-spec : {M : Type 1} → statement M
 record-right-spec =

@@ -1,0 +1,11 @@
+pub mod Codes
+pub mod Doing
+pub mod Take
+pub mod Runs
+pub mod Turns
+pub mod Deliver
+pub mod Leave
+pub mod Tick
+pub mod Reserve
+pub mod Rules
+pub mod Exact

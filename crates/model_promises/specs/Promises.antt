@@ -1,0 +1,55 @@
+-- What is promised of model files, each statement by its name.
+use mathlib.Core.Path.{_≡_}
+use mathlib.Core.Bool.{true}
+use mathlib.Core.Logic.{_↔_}
+use mathlib.Core.List.{List}
+use Prim.Native.Nat.{ℕ}
+use Rattle.model.specs.File.{fileOf}
+use Rattle.model.specs.Loading.{loaded, acrossRight, emptyModel}
+use Rattle.model.specs.Valid.{valid, Held}
+use Rattle.model.specs.declared.Model.{Model}
+use Rattle.blocks.specs.declared.Verdict.{Verdict}
+use Rattle.blocks.specs.declared.Verdict.the-variants.{Good}
+use Rattle.model_promises.specs.Across.{rowFive}
+use Rattle.model_promises.specs.Loads.{AreBytes, LoadsTo, Passes1, Passes3, Passes4, Means}
+use Rattle.model_promises.specs.Samples.{modelP}
+
+-- ---- the verdict
+
+-- the verdict on a file means what it says
+abbrev pub VerdictMeans : Type 0
+VerdictMeans = (file : List ℕ) → Means file (loaded file .verdict)
+
+-- the other way round: where it is so, that verdict is given
+abbrev pub VerdictMeant : Type 0
+VerdictMeant = (file : List ℕ) (v : Verdict) → Means file v → loaded file .verdict ≡ v
+
+-- where the stages before it pass, refusal 5 is given for what it lists and for nothing else
+abbrev pub OnlyFive : Type 0
+OnlyFive = (file : List ℕ) → AreBytes file → Passes1 file → Passes3 file → Passes4 file → acrossRight file ≡ rowFive file
+
+-- a file that is refused gives the empty model
+abbrev pub RefusedEmpty : Type 0
+RefusedEmpty = (file : List ℕ) → (loaded file .verdict ≡ Good → ⊥) → loaded file .model ≡ emptyModel
+
+-- ---- the model
+
+-- what loads is valid
+abbrev pub LoadsValid : Type 0
+LoadsValid = (file : List ℕ) (m : Model) → LoadsTo file m → valid m ≡ true
+
+-- what loads from bytes is a model that the machine can hold
+abbrev pub LoadsHeld : Type 0
+LoadsHeld = (file : List ℕ) (m : Model) → AreBytes file → LoadsTo file m → Held m
+
+-- a valid model that the machine can hold is loaded from its own file
+abbrev pub ValidLoads : Type 0
+ValidLoads = (m : Model) → Held m → valid m ≡ true → AreBytes (fileOf m) × LoadsTo (fileOf m) m
+
+-- a model that the machine can hold is valid exactly when some file of bytes loads to it
+abbrev pub ValidExactly : Type 0
+ValidExactly = (m : Model) → Held m → (valid m ≡ true) ↔ ((file : List ℕ) × AreBytes file × LoadsTo file m)
+
+-- model P loads from its own file
+abbrev pub PLoads : Type 0
+PLoads = AreBytes (fileOf modelP) × LoadsTo (fileOf modelP) modelP

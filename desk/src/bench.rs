@@ -17,7 +17,7 @@ const WALK: usize = 10_000;
 const LOADS: usize = 200;
 const COPIES: usize = 100_000;
 
-/// As large as the paper's model P, but it never ends.
+/// As large as model P of the rules, but it never ends.
 const SMALL: &str = "
 subject scheduler starts
   state measure internal
@@ -172,7 +172,7 @@ fn load_second(s: &Course) -> f64 {
 
 fn run_proved(engine: &dyn Engine, s: &Course, tape: &[u8]) -> f64 {
     let count = tape.len() / 8;
-    let mut lines = vec![0; count * 4];
+    let mut lines = vec![0; numbers_of(tape)];
     let mut config = s.start.to_bytes();
     time(count, || {
         black_box(engine.run(&s.file, &mut config, tape, &mut lines));
@@ -184,7 +184,7 @@ fn run_second(s: &Course, tape: &[u8]) -> f64 {
     let mut config = s.start;
     time(tape.len() / 8, || {
         let model = load(&s.file).unwrap_or_default();
-        black_box(run_tape(&model, &mut config, tape));
+        let _ = black_box(run_tape(&model, &mut config, tape, numbers_of(tape)));
     })
 }
 
@@ -484,7 +484,7 @@ mod tests {
             for (name, tape) in &s.tapes {
                 assert_eq!(tape.len(), TAPE * 8);
                 let mut config = s.start;
-                let lines = run_tape(&model, &mut config, tape);
+                let lines = run_tape(&model, &mut config, tape, numbers_of(tape)).unwrap();
                 assert!(lines.iter().all(|l| l.refusal == 0), "{} {name}", s.name);
                 let codes = |c: u8| lines.iter().filter(|l| l.code == c).count();
                 let counts: Vec<usize> = (1..9).map(codes).collect();

@@ -93,9 +93,10 @@ bounds the configurations (100000 unless said otherwise); --dot writes a picture
 
 const COMPARE: &str = "\
 Compares the second engine with the proved one: random models, their files whole and damaged, the yes/no for each pool,
-fresh starts, tapes step by step and as a whole, steps from disturbed configurations. The same seed gives the same
-cases; --seconds stops earlier. At the end a table says how often each command, refusal and answer came. The first
-difference is printed in its shortest form, with what each engine said, and ends with status 1.";
+fresh starts, tapes step by step and as a whole, from configurations disturbed and bytes that are none, buffers too short
+or longer than needed. Answers and every byte of the buffers are compared, so a refused call has to leave them all. The
+same seed gives the same cases; --seconds stops earlier. At the end a table says how often each command, refusal and answer
+came. The first difference is printed in its shortest form, with what each engine said, and ends with status 1.";
 
 const BENCH: &str = "\
 Times the proved and the second engine side by side, on a small model, a middle one, and a large one with full pools:

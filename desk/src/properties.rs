@@ -134,7 +134,7 @@ fn follow(model: &Model, tape: &[u8], counts: &mut Counts) {
         lines.push((piece[0], answer.refusal()));
     }
     let mut again = fresh(model).1;
-    let told = run_tape(model, &mut again, tape);
+    let told = run_tape(model, &mut again, tape, numbers_of(tape)).unwrap();
     let told: Vec<(u8, u8)> = told.iter().map(|l| (l.code, l.refusal)).collect();
     assert_eq!(told, lines);
     assert_eq!(again, config);
@@ -164,13 +164,17 @@ fn accepted_steps_keep_the_configuration_valid() {
 #[test]
 fn a_disturbed_configuration_is_refused_or_stays_valid() {
     let mut rng = Rng::new(6);
-    let mut counts = [0; 2];
+    let (mut counts, mut none) = ([0; 2], 0);
     for _ in 0..20_000 {
         let model = random_model(&mut rng);
         let whole = random_config(&mut rng, &model);
         assert!(config_valid(&model, &whole));
-        let config = disturbed(&mut rng, &whole);
-        assert_eq!(Config::from_bytes(&config.to_bytes()), config);
+        let start = disturbed(&mut rng, &whole);
+        let Some(config) = Config::from_bytes(&start) else {
+            none += 1;
+            continue;
+        };
+        assert_eq!(config.to_bytes(), start);
         let valid = config_valid(&model, &config);
         counts[usize::from(valid)] += 1;
         let mut after = config;
@@ -184,6 +188,7 @@ fn a_disturbed_configuration_is_refused_or_stays_valid() {
         assert!(!valid || config_valid(&model, &after));
     }
     assert!(counts.iter().all(|c| *c > 2_000), "{counts:?}");
+    assert!(none > 200, "{none} are no configuration");
 }
 
 #[test]
@@ -205,12 +210,12 @@ fn a_tape_shown_as_text_builds_to_the_same_bytes() {
 /// A text with some of its characters changed, dropped or doubled.
 fn garbled(rng: &mut Rng, text: &str) -> String {
     let mut chars: Vec<char> = text.chars().collect();
-    for _ in 0..rng.from_to(1, 6) {
+    for _ in 0..rng.between(1, 6) {
         let at = rng.below(chars.len());
         match rng.below(4) {
             0 => drop(chars.remove(at)),
             1 => chars.insert(at, rng.pick(&['\n', ' ', '-', '>', '#', '9', 'x', 'é'])),
-            2 => chars.swap(at, rng.from_to(0, at)),
+            2 => chars.swap(at, rng.between(0, at)),
             _ => chars[at] = rng.pick(&['\n', ' ', '0', '3', 't', 's', 'm']),
         }
     }

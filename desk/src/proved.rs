@@ -1,27 +1,28 @@
 //! The proved engine's functions. This is the only file with `unsafe`.
 
-/// What the proved engine offers. A buffer that is too short is left as it is.
+/// What the proved engine offers. Each call answers with the first refusal that holds, 0 for none, and a refused one changes no
+/// byte of any buffer. 8 is a file that does not load, 10 bytes that are no configuration or not a valid one, 6 a buffer too short.
 pub trait Engine {
-    /// Refusal + 256 * block; the model's bytes go to `room`.
+    /// The loader's 1 to 5 plus 256 * block, 6; the model's bytes go to `room`.
     fn load(&self, file: &[u8], room: &mut [u8]) -> u16;
-    /// Refusal; the fresh start goes to `config`.
+    /// 8, 6; the fresh start goes to `config`.
     fn fresh(&self, file: &[u8], config: &mut [u8]) -> u8;
-    /// Refusal of one coded command; `config` is replaced, Reserve's answer goes to `values`.
+    /// One coded command: 8, 9, 10, 6, 11 to 20; `config` is replaced, Reserve's answer goes to `values`, else nine 0.
     fn step(&self, file: &[u8], config: &mut [u8], command: &[u8], values: &mut [u8]) -> u8;
-    /// A whole tape, judged once: 0, or 6 where `lines` is too short; four numbers a command.
+    /// A whole tape, judged once: 8, 10, 6; `config` is replaced, four numbers a command go to `lines`.
     fn run(&self, file: &[u8], config: &mut [u8], tape: &[u8], lines: &mut [u32]) -> u8;
-    /// A whole tape by one public step each; how many commands.
-    fn walk(&self, file: &[u8], config: &mut [u8], tape: &[u8]) -> usize;
-    /// 1 yes, 0 no, or a refusal.
+    /// A whole tape by one public step each, refused ones passed over: 8, 10; `config` is replaced.
+    fn walk(&self, file: &[u8], config: &mut [u8], tape: &[u8]) -> u8;
+    /// 1 yes, 0 no, or 8, 11.
     fn shared(&self, file: &[u8], owner: u8) -> u8;
 }
 
 /// How to get the proved engine where it is missing.
 #[cfg(not(proved))]
 pub const MISSING: &str = "\
-this desk was built without the proved engine. Make its archive with 'rt staticlib exported' in the repository's root
-(it is looked for at ../target/staticlib/libexported.a, or where the environment variable DESK_PROVED says), then
-build the desk again: 'cargo build --release'";
+this desk was built without the proved engine. On x86-64 make its archive with 'rt staticlib exported' in the repository's
+root (it is looked for at ../target/staticlib/libexported.a, or where the environment variable DESK_PROVED says), then
+build the desk again: 'cargo build --release'. The archive is for Linux on x86-64 and links into no other program";
 
 /// The proved engine, or how to get it.
 #[cfg(not(proved))]
@@ -67,7 +68,7 @@ mod library {
             config_n: usize,
             tape: *const u8,
             tape_n: usize,
-        ) -> usize;
+        ) -> u8;
         fn zs_shared(file: *const u8, n: usize, owner: u8) -> u8;
     }
 
@@ -114,7 +115,7 @@ mod library {
             }
         }
 
-        fn walk(&self, file: &[u8], config: &mut [u8], tape: &[u8]) -> usize {
+        fn walk(&self, file: &[u8], config: &mut [u8], tape: &[u8]) -> u8 {
             unsafe {
                 zs_walk(
                     file.as_ptr(),

@@ -25,7 +25,7 @@ impl Rng {
     }
 
     /// A number from `least` to `most`, both included.
-    pub fn from_to(&mut self, least: usize, most: usize) -> usize {
+    pub fn between(&mut self, least: usize, most: usize) -> usize {
         least + self.below(most - least + 1)
     }
 
@@ -81,9 +81,9 @@ pub fn random_model(rng: &mut Rng) -> Model {
 fn random_n(rng: &mut Rng) -> usize {
     match rng.below(100) {
         0..=9 => 1,
-        10..=79 => rng.from_to(2, 4),
-        80..=94 => rng.from_to(5, 8),
-        95..=97 => rng.from_to(9, 15),
+        10..=79 => rng.between(2, 4),
+        80..=94 => rng.between(5, 8),
+        95..=97 => rng.between(9, 15),
         _ => 16,
     }
 }
@@ -91,16 +91,16 @@ fn random_n(rng: &mut Rng) -> usize {
 fn random_count(rng: &mut Rng) -> usize {
     match rng.below(100) {
         0..=4 => 1,
-        5..=79 => rng.from_to(2, 6),
-        80..=97 => rng.from_to(7, 12),
-        _ => rng.from_to(13, 32),
+        5..=79 => rng.between(2, 6),
+        80..=97 => rng.between(7, 12),
+        _ => rng.between(13, 32),
     }
 }
 
 /// A few types, mostly small numbers.
 fn random_types(rng: &mut Rng) -> Vec<u8> {
     let most = rng.pick(&[4, 4, 32]);
-    let count = rng.from_to(1, 3);
+    let count = rng.between(1, 3);
     (0..count).map(|_| rng.below(most) as u8).collect()
 }
 
@@ -262,7 +262,7 @@ fn fill_states(
 fn missing_exits(rng: &mut Rng, state: &State, huge: bool) -> usize {
     let most = if huge || rng.chance(10) { 8 } else { 3 };
     match state.kind {
-        INTERNAL | RECEIVE => rng.from_to(1, most),
+        INTERNAL | RECEIVE => rng.between(1, most),
         CLOSE | OPEN => 1,
         ASK_EMPTY => 2,
         _ => 0,
@@ -283,8 +283,8 @@ fn random_leave(rng: &mut Rng, subject: &Subject, state: &mut State) {
     if rng.chance(70) {
         state.timeout = random_target(rng, subject);
         state.duration = match rng.below(20) {
-            0 => rng.from_to(1, 65_535) as u16,
-            _ => rng.from_to(1, 3) as u16,
+            0 => rng.between(1, 65_535) as u16,
+            _ => rng.between(1, 3) as u16,
         };
     }
     if rng.chance(35) {
@@ -308,8 +308,8 @@ fn random_limits(
     let wanted = match rng.below(10) {
         _ if huge => 8,
         0..=4 => 0,
-        5..=8 => rng.from_to(1, 3),
-        _ => rng.from_to(4, 8),
+        5..=8 => rng.between(1, 3),
+        _ => rng.between(4, 8),
     };
     let mut limits: Vec<Limit> = Vec::new();
     for _ in 0..wanted * 4 {
@@ -494,9 +494,9 @@ fn likely_exit(rng: &mut Rng, state: &State, pool: &Pool) -> u8 {
 /// Any command for any subject, also one too many, and any exit.
 fn near_miss(rng: &mut Rng, model: &Model) -> [u8; 8] {
     let w = rng.word().to_le_bytes();
-    let code = rng.from_to(1, 7) as u8;
+    let code = rng.between(1, 7) as u8;
     let subject = match rng.below(6) {
-        0 => rng.from_to(model.n(), 17.max(model.n())) as u8,
+        0 => rng.between(model.n(), 17.max(model.n())) as u8,
         _ => rng.below(model.n()) as u8,
     };
     let exit = rng.below(9) as u8;
@@ -517,20 +517,41 @@ fn noise(rng: &mut Rng) -> [u8; 8] {
     bytes
 }
 
-/// A configuration with a few of its flat bytes changed.
-pub fn disturbed(rng: &mut Rng, config: &Config) -> Config {
+/// The bytes of a configuration with a few of them changed.
+pub fn disturbed(rng: &mut Rng, config: &Config) -> [u8; CONFIG_BYTES] {
     let mut bytes = config.to_bytes();
-    for _ in 0..rng.from_to(1, 3) {
+    for _ in 0..rng.between(1, 3) {
         let subject = rng.pick(&[0, 0, 1, 1, 2, 3, rng.0 as usize % 16]);
         let at = match rng.below(3) {
             0 => rng.below(10),
-            1 => rng.from_to(74, 74 + 21),
+            1 => rng.between(74, 74 + 21),
             _ => rng.below(ACTOR_BYTES),
         };
         let byte = &mut bytes[subject * ACTOR_BYTES + at];
         *byte = rng.pick(&[0, 1, 2, 3, 16, 17, 255, *byte ^ 1, byte.wrapping_add(1)]);
     }
-    Config::from_bytes(&bytes)
+    bytes
+}
+
+/// The bytes of a configuration with an entry, mostly one in use, that is neither a message nor a reservation.
+pub fn flagged(rng: &mut Rng, config: &Config) -> [u8; CONFIG_BYTES] {
+    let mut bytes = config.to_bytes();
+    let filled = |s: &usize| config.subjects[*s].pool.count != 0;
+    let owners: Vec<usize> = (0..16).filter(filled).collect();
+    let (s, most) = if owners.is_empty() || rng.chance(25) {
+        (rng.below(16), POOL)
+    } else {
+        let s = rng.pick(&owners);
+        (s, config.subjects[s].pool.used().len())
+    };
+    bytes[message_at(s, rng.below(most))] = rng.pick(&[2, 3, 4, 127, 128, 254, 255]);
+    bytes
+}
+
+/// Any bytes at all in the place of a configuration.
+pub fn any_bytes(rng: &mut Rng) -> [u8; CONFIG_BYTES] {
+    let most = rng.pick(&[2, 2, 4, 256]);
+    std::array::from_fn(|_| rng.below(most) as u8)
 }
 
 /// A model file with a few bytes changed, the checks mostly made right again.
@@ -643,8 +664,8 @@ fn arrange_messages(
     let mine = sent_to(sent, owner);
     let wanted = match rng.below(4) {
         0 => 0,
-        1 => rng.from_to(1, 3),
-        _ => rng.from_to(0, POOL),
+        1 => rng.between(1, 3),
+        _ => rng.between(0, POOL),
     };
     for _ in 0..wanted {
         let (sender, typ) = random_source(rng, &mine, model.n(), &[0, 1, 2, 31]);
@@ -732,8 +753,8 @@ fn change_exit(rng: &mut Rng, state: &mut State, value: u8) {
     }
 }
 
-/// A configuration with one entry of a pool doubled, dropped or changed, mostly a reservation.
-pub fn twisted(rng: &mut Rng, config: &Config) -> Config {
+/// The bytes of a configuration with one entry of a pool doubled, dropped or changed, mostly a reservation.
+pub fn twisted(rng: &mut Rng, config: &Config) -> [u8; CONFIG_BYTES] {
     let mut config = *config;
     let filled = |s: &usize| config.subjects[*s].pool.count != 0;
     let owners: Vec<usize> = (0..16).filter(filled).collect();
@@ -755,7 +776,7 @@ pub fn twisted(rng: &mut Rng, config: &Config) -> Config {
         _ if usize::from(pool.count) < POOL => pool.push(pool.entries[at]),
         _ => pool.entries[at].content = rng.word(),
     }
-    config
+    config.to_bytes()
 }
 
 /// A model with as much of something as there may be, or one more.

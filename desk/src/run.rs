@@ -19,11 +19,12 @@ pub fn main(given: &[String]) -> Outcome {
     files::print(&text)
 }
 
-/// The lines in the paper's own form.
+/// The lines of the rules' program.
 fn plain_text(model: &Model, tape: &[u8]) -> String {
     let mut config = fresh(model).1;
     let mut text = "n c s r state word pool\n".to_string();
-    for (i, l) in run_tape(model, &mut config, tape).iter().enumerate() {
+    let lines = run_tape(model, &mut config, tape, numbers_of(tape));
+    for (i, l) in lines.iter().flatten().enumerate() {
         text += &format!(
             "{} {} {} {} {} {} {}\n",
             i + 1,

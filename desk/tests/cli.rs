@@ -40,7 +40,7 @@ fn builds_and_shows_again() {
 }
 
 #[test]
-fn prints_the_paper_lines_from_text_and_binary() {
+fn prints_the_lines_of_the_rules_from_text_and_binary() {
     let (bin, tape) = (scratch("c.bin"), scratch("c.tape"));
     desk(&["build", PAIR, "-o", &bin]);
     desk(&["tape", PAIR_TAPE, "-o", &tape, "--model", PAIR]);
@@ -167,19 +167,23 @@ fn refused_input_is_status_one() {
 }
 
 #[test]
-fn compares_and_times_where_the_proved_engine_is_there() {
+#[cfg_attr(not(proved), ignore = "the proved engine's archive is not linked")]
+fn compares_and_times() {
     let compared = desk(&["compare", "--seed", "5", "--cases", "20"]);
+    assert!(compared.status.success(), "{}", out(&compared));
+    assert!(out(&compared).contains("seed 5, 20 of 20 cases"));
     let timed = desk(&["bench", "--runs", "1"]);
-    if cfg!(proved) {
-        assert!(compared.status.success(), "{}", out(&compared));
-        assert!(out(&compared).contains("seed 5, 20 of 20 cases"));
-        assert!(timed.status.success());
-        assert!(out(&timed).contains("| large | public step, mix |"));
-        return;
-    }
-    for o in [compared, timed] {
+    assert!(timed.status.success());
+    assert!(out(&timed).contains("| large | public step, mix |"));
+}
+
+#[test]
+#[cfg_attr(proved, ignore = "the proved engine's archive is linked")]
+fn says_how_to_get_the_proved_engine() {
+    for words in [&["compare", "--cases", "20"], &["bench", "--runs", "1"]] {
+        let o = desk(words);
         assert_eq!(o.status.code(), Some(2));
-        assert!(err(&o).contains("'rt staticlib exported' in the repository's root"));
+        assert!(err(&o).contains("'rt staticlib exported' in the repository's"));
         assert!(out(&o).is_empty());
     }
 }

@@ -2,7 +2,8 @@
 
 use super::counts::Counts;
 use super::draft::{mend, Draft};
-use super::trial::{Call, Difference, Trial};
+use super::flat::MODEL_BYTES;
+use super::trial::{Call, Difference, Spare, Trial};
 use crate::proved::Engine;
 use crate::random::*;
 use crate::second::*;
@@ -74,33 +75,67 @@ impl Comparison<'_> {
         let mut tape = random_tape(rng, model, len);
         self.check(Trial::of_tape(Call::Step, file, None, &tape))?;
         if rng.chance(25) {
-            let piece = rng.bits().to_le_bytes();
-            tape.extend(&piece[..rng.from_to(1, 7)]);
+            let any = rng.bits().to_le_bytes();
+            let piece = rng.pick(&[Command::Tick.encode(), any]);
+            tape.extend(&piece[..rng.between(1, 7)]);
         }
         self.check(Trial::of_tape(Call::Run, file, None, &tape))?;
         self.check(Trial::of_tape(Call::Walk, file, None, &tape))?;
         tape.truncate(rng.below(4) * 8);
-        self.check(Trial::of_tape(Call::ShortBuffers, file, None, &tape))
+        self.buffers(rng, file, None, &tape)
     }
 
-    /// Single steps and short tapes from configurations put together or disturbed.
+    /// Every call with buffers that are mostly too short or longer than needed.
+    fn buffers(
+        &mut self,
+        rng: &mut Rng,
+        file: &[u8],
+        start: Option<[u8; CONFIG_BYTES]>,
+        tape: &[u8],
+    ) -> Compared {
+        for (call, need) in [
+            (Call::Load, MODEL_BYTES),
+            (Call::Fresh, 0),
+            (Call::Step, 9),
+            (Call::Run, numbers_of(tape)),
+            (Call::Walk, 0),
+        ] {
+            let spare = Spare {
+                config: random_spare(rng, CONFIG_BYTES),
+                answer: random_spare(rng, need),
+            };
+            self.check(Trial {
+                spare,
+                ..Trial::of_tape(call, file, start, tape)
+            })?;
+        }
+        Ok(())
+    }
+
+    /// Single steps and short tapes from configurations put together or disturbed, and from bytes that are none.
     fn configs(&mut self, rng: &mut Rng, model: &Model, file: &[u8]) -> Compared {
         for i in 0..12 {
             let whole = match rng.chance(60) {
                 true => arranged(rng, model),
                 false => random_config(rng, model),
             };
-            let start = match rng.below(10) {
-                0..=2 => disturbed(rng, &whole),
-                3 | 4 => twisted(rng, &whole),
-                _ => whole,
+            let start = match rng.below(24) {
+                0..=5 => disturbed(rng, &whole),
+                6..=9 => twisted(rng, &whole),
+                10 | 11 => flagged(rng, &whole),
+                12 => any_bytes(rng),
+                _ => whole.to_bytes(),
             };
             let tape = tape_from(rng, model, &start);
             let start = Some(start);
             self.check(Trial::of_tape(Call::Step, file, start, &tape))?;
-            if i % 4 == 0 {
-                self.check(Trial::of_tape(Call::Run, file, start, &tape))?;
-                self.check(Trial::of_tape(Call::Walk, file, start, &tape))?;
+            match i % 4 {
+                0 => {
+                    self.check(Trial::of_tape(Call::Run, file, start, &tape))?;
+                    self.check(Trial::of_tape(Call::Walk, file, start, &tape))?;
+                }
+                1 => self.buffers(rng, file, start, &tape)?,
+                _ => {}
             }
         }
         Ok(())
@@ -158,27 +193,39 @@ impl Comparison<'_> {
     fn refused_file(&mut self, rng: &mut Rng, model: &Model, file: &[u8]) -> Compared {
         let other = random_damage(rng, file);
         let whole = random_config(rng, model);
-        let start = rng.pick(&[None, Some(whole)]);
+        let none = flagged(rng, &whole);
+        let start = rng.pick(&[None, Some(whole.to_bytes()), Some(none)]);
         let tape = random_tape(rng, model, 4);
         self.file(&other, 0)?;
         self.check(Trial::of_tape(Call::Step, &other, start, &tape))?;
         self.check(Trial::of_tape(Call::Run, &other, start, &tape))?;
         self.check(Trial::of_tape(Call::Walk, &other, start, &tape))?;
-        self.check(Trial::of_tape(Call::ShortBuffers, &other, start, &tape))
+        self.buffers(rng, &other, start, &tape)
     }
 }
 
 /// A few commands that fit the configuration; any, where it is not valid.
-fn tape_from(rng: &mut Rng, model: &Model, start: &Config) -> Vec<u8> {
-    let valid = config_valid(model, start);
-    let mut config = if valid { *start } else { fresh(model).1 };
+fn tape_from(rng: &mut Rng, model: &Model, start: &[u8]) -> Vec<u8> {
+    let valid = Config::from_bytes(start).filter(|c| config_valid(model, c));
+    let mut config = valid.unwrap_or_else(|| fresh(model).1);
     let mut tape = Vec::new();
-    for _ in 0..if valid { 6 } else { 2 } {
+    for _ in 0..if valid.is_some() { 6 } else { 2 } {
         let bytes = random_command(rng, model, &config);
         step_coded(model, &mut config, bytes);
         tape.extend(bytes);
     }
     tape
+}
+
+/// How much longer a buffer is than needed; mostly too short by one, by some or by all, or a little longer.
+fn random_spare(rng: &mut Rng, need: usize) -> isize {
+    match rng.below(8) {
+        0..=2 => 0,
+        3 | 4 => -1,
+        5 => -(rng.between(0, need) as isize),
+        6 => -(need as isize),
+        _ => rng.between(1, 20) as isize,
+    }
 }
 
 /// A file damaged in one of several ways.

@@ -4,8 +4,8 @@ use crate::second::*;
 use crate::text::names::refusal_word;
 use crate::text::tape_print::WORDS;
 
-/// The refusal of a call whose buffer for the lines is too short.
-pub const TOO_SHORT: u8 = 6;
+/// The code of a Reserve.
+const RESERVE: u8 = 2;
 
 /// The counts of one comparison.
 #[derive(Clone, Debug, Default)]
@@ -16,6 +16,9 @@ pub struct Counts {
     pub steps: u64,
     pub lines: u64,
     pub walked: u64,
+    /// Configurations given in bytes, and those of them that are none.
+    pub configs: u64,
+    pub none: u64,
     pub accepted: [u64; 9],
     pub refusals: [u64; 21],
     /// Reserve's answers with somebody placed, improper, closed, full, and with nobody missing.
@@ -40,47 +43,49 @@ impl Counts {
     }
 
     /// Counts the answer for a pool.
-    pub fn share(&mut self, share: Share) {
-        match share {
-            Share::Yes => self.yes += 1,
-            Share::No => self.no += 1,
-            Share::Refused(number) => self.refusal(number),
+    pub fn share(&mut self, answer: u8) {
+        match answer {
+            1 => self.yes += 1,
+            0 => self.no += 1,
+            number => self.refusal(number),
         }
     }
 
-    /// Counts one step.
-    pub fn step(&mut self, code: u8, answer: &Answer) {
+    /// Counts bytes in the place of a configuration.
+    pub fn config(&mut self, bytes: &[u8]) {
+        self.configs += 1;
+        self.none += u64::from(Config::from_bytes(bytes).is_none());
+    }
+
+    /// Counts one step with its nine values.
+    pub fn step(&mut self, code: u8, refusal: u8, values: &[u8]) {
         self.steps += 1;
-        self.refusal(answer.refusal());
-        if answer.refusal() == 0 {
-            self.accepted[usize::from(code)] += 1;
+        self.refusal(refusal);
+        if refusal != 0 {
+            return;
         }
-        if let Answer::Reserved {
-            placed,
-            improper,
-            closed,
-            full,
-            missing,
-        } = *answer
-        {
-            let came = [
-                placed != 0,
-                improper != 0,
-                closed != 0,
-                full != 0,
-                missing == 0,
-            ];
-            for (count, came) in self.replies.iter_mut().zip(came) {
-                *count += u64::from(came);
+        self.accepted[usize::from(code)] += 1;
+        if code == RESERVE {
+            for (count, mask) in self.replies.iter_mut().zip(values.chunks_exact(2).take(4)) {
+                *count += u64::from(mask != [0, 0]);
             }
+            self.replies[4] += u64::from(values[8] == 0);
         }
     }
 
     /// The table for the end of a comparison.
     pub fn table(&self) -> String {
         let mut text = format!(
-            "models {}, files {} ({} loaded), steps {}, tape lines {}, walked commands {}\n",
-            self.models, self.files, self.loaded, self.steps, self.lines, self.walked
+            "models {}, files {} ({} loaded), steps {}, tape lines {}, walked commands {}\n\
+             configurations in bytes {} ({} are none)\n",
+            self.models,
+            self.files,
+            self.loaded,
+            self.steps,
+            self.lines,
+            self.walked,
+            self.configs,
+            self.none
         );
         text += "\ncommand       accepted\n";
         for (code, word) in WORDS.iter().enumerate().skip(1) {
@@ -88,12 +93,8 @@ impl Counts {
         }
         text += "\nrefusal          times\n";
         for number in (1u8..=20).filter(|number| *number != 7) {
-            let meaning = match number {
-                TOO_SHORT => "a buffer is too short",
-                _ => refusal_word(number),
-            };
             let times = self.refusals[usize::from(number)];
-            text += &format!("{number:2} {times:>19}  {meaning}\n");
+            text += &format!("{number:2} {times:>19}  {}\n", refusal_word(number));
         }
         text += "\nReserve answered\n";
         let words = ["placed", "improper", "closed", "full", "none missing"];

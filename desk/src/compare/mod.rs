@@ -1,5 +1,6 @@
 //! `desk compare`: the second engine against the proved one, on random models, tapes and damages.
 
+mod calls;
 mod cases;
 mod counts;
 mod draft;

@@ -1,7 +1,7 @@
 //! Prints a trial that differs: the model, the tape, and what each engine said.
 
 use super::flat::{config_fields, value_of};
-use super::trial::{Call, Difference, Trial};
+use super::trial::{Call, Difference, Spare, Trial};
 use crate::second::*;
 use crate::show::{checks_aside, records_text, shown, trouble_text};
 use crate::text::names::Named;
@@ -22,8 +22,8 @@ pub fn difference_text(trial: &Trial, difference: &Difference) -> String {
         text += &format!("\nthe tape, {commands}:\n");
         text += &tape_text(&trial.tape, named(trial).as_ref());
     }
-    text += &format!("\n{}", call_text(trial));
-    if let Some(i) = difference.command {
+    text += &format!("\n{}{}", call_text(trial), spare_text(trial.spare));
+    if let Some(i) = difference.command.filter(|i| i * 8 < trial.tape.len()) {
         text += &format!(", command {} of the tape", i + 1);
     }
     text + ":\n" + &fields_text(difference)
@@ -49,11 +49,13 @@ fn named(trial: &Trial) -> Option<Named> {
 
 /// Where the tape starts: all fields that are not 0.
 fn start_text(trial: &Trial) -> String {
-    let Some(config) = trial.start else {
+    let Some(bytes) = trial.start else {
         return "\nfrom the fresh start\n".to_string();
     };
-    let bytes = config.to_bytes();
-    let mut text = "\nfrom this configuration, all else 0:\n".to_string();
+    let mut text = match Config::from_bytes(&bytes) {
+        Some(_) => "\nfrom this configuration, all else 0:\n".to_string(),
+        None => "\nfrom these bytes, which are no configuration, all else 0:\n".to_string(),
+    };
     for field in config_fields() {
         match value_of(&field, &bytes) {
             0 => {}
@@ -72,8 +74,19 @@ fn call_text(trial: &Trial) -> String {
         Call::Step => "step by step (zs_step)".to_string(),
         Call::Run => "the whole tape (zs_run)".to_string(),
         Call::Walk => "the whole tape by public steps (zs_walk)".to_string(),
-        Call::ShortBuffers => "with buffers one too short".to_string(),
     }
+}
+
+/// The buffers that are shorter or longer than the call needs.
+fn spare_text(spare: Spare) -> String {
+    let mut text = String::new();
+    for (buffer, spare) in [("configuration", spare.config), ("answer", spare.answer)] {
+        let than = if spare < 0 { "short" } else { "long" };
+        if spare != 0 {
+            text += &format!(", buffer of the {buffer} {} too {than}", spare.abs());
+        }
+    }
+    text
 }
 
 /// What each engine said, a line a field.

@@ -2,7 +2,8 @@
 
 use super::counts::Counts;
 use super::draft::{down, mask_down, mend, Cut, Draft};
-use super::trial::{Call, Trial};
+use super::flat::config_fields;
+use super::trial::{Call, Spare, Trial};
 use crate::proved::Engine;
 use crate::second::*;
 
@@ -25,6 +26,7 @@ pub fn shorten(engine: &dyn Engine, trial: &Trial) -> Trial {
         let smaller = [
             shortener.tape(),
             shortener.start(),
+            shortener.spare(),
             shortener.records(),
             shortener.words(),
             shortener.blocks(),
@@ -99,6 +101,9 @@ impl Shortener<'_> {
         if self.keep(candidate) {
             return true;
         }
+        if !self.starts_at_config() {
+            return self.plainer_bytes();
+        }
         let mut smaller = false;
         for s in 0..16 {
             for change in ACTOR_CHANGES {
@@ -116,31 +121,55 @@ impl Shortener<'_> {
         smaller
     }
 
+    /// Whether the bytes of the start are a configuration.
+    fn starts_at_config(&self) -> bool {
+        matches!(&self.best.start, Some(bytes) if Config::from_bytes(bytes).is_some())
+    }
+
+    /// Makes subjects and fields 0 in bytes that are no configuration.
+    fn plainer_bytes(&mut self) -> bool {
+        let subjects = (0..16).map(|s| s * ACTOR_BYTES..(s + 1) * ACTOR_BYTES);
+        let fields = config_fields().into_iter().map(|f| f.at..f.at + f.len);
+        let mut smaller = false;
+        for part in subjects.chain(fields) {
+            let mut candidate = self.best.clone();
+            if let Some(bytes) = candidate.start.as_mut() {
+                bytes[part].fill(0);
+            }
+            smaller |= candidate.start != self.best.start && self.keep(candidate);
+        }
+        smaller
+    }
+
+    /// Makes the buffers as long as the call needs them, or one shorter or longer.
+    fn spare(&mut self) -> bool {
+        let plainer: [fn(&mut Spare); 4] = [
+            |spare| spare.config = 0,
+            |spare| spare.answer = 0,
+            |spare| spare.config = spare.config.signum(),
+            |spare| spare.answer = spare.answer.signum(),
+        ];
+        let mut smaller = false;
+        for change in plainer {
+            let mut candidate = self.best.clone();
+            change(&mut candidate.spare);
+            smaller |= candidate.spare != self.best.spare && self.keep(candidate);
+        }
+        smaller
+    }
+
     /// Makes one subject of the start simpler.
     fn simpler_actor(&mut self, s: usize, change: &dyn Fn(&mut Actor)) -> bool {
         let mut candidate = self.best.clone();
-        let Some(config) = candidate.start.as_mut() else {
-            return false;
-        };
-        let before = config.subjects[s];
-        change(&mut config.subjects[s]);
-        config.subjects[s] != before && self.keep(candidate)
+        candidate.start = changed_config(candidate.start, |c| change(&mut c.subjects[s]));
+        candidate.start != self.best.start && self.keep(candidate)
     }
 
     /// Takes a reservation out of a pool and out of its sender's mask.
     fn without_place(&mut self, s: usize, e: usize) -> bool {
         let mut candidate = self.best.clone();
-        let Some(config) = candidate.start.as_mut() else {
-            return false;
-        };
-        let entry = config.subjects[s].pool.entries[e];
-        let sender = usize::from(entry.sender);
-        if e >= config.subjects[s].pool.used().len() || entry.message || sender >= 16 {
-            return false;
-        }
-        drop_entry(&mut config.subjects[s], e);
-        config.subjects[sender].mask &= !bit(s);
-        self.keep(candidate)
+        candidate.start = changed_config(candidate.start, |c| drop_place(c, s, e));
+        candidate.start != self.best.start && self.keep(candidate)
     }
 
     /// Leaves subjects, states, exits, limits, timeouts, cancel targets and receivers out of the file.
@@ -238,6 +267,28 @@ const ACTOR_CHANGES: &[&dyn Fn(&mut Actor)] = &[
     &|a| a.state = 0,
 ];
 
+/// The bytes of a start with its configuration changed; as they are where they are none.
+fn changed_config(
+    start: Option<[u8; CONFIG_BYTES]>,
+    change: impl FnOnce(&mut Config),
+) -> Option<[u8; CONFIG_BYTES]> {
+    let Some(mut config) = start.and_then(|bytes| Config::from_bytes(&bytes)) else {
+        return start;
+    };
+    change(&mut config);
+    Some(config.to_bytes())
+}
+
+/// Takes a reservation out of a pool and out of its sender's mask.
+fn drop_place(config: &mut Config, s: usize, e: usize) {
+    let entry = config.subjects[s].pool.entries[e];
+    let sender = usize::from(entry.sender);
+    if e < config.subjects[s].pool.used().len() && !entry.message && sender < 16 {
+        drop_entry(&mut config.subjects[s], e);
+        config.subjects[sender].mask &= !bit(s);
+    }
+}
+
 /// Takes an entry out of a pool, also one of a pool that is not valid.
 fn drop_entry(actor: &mut Actor, e: usize) {
     if e < actor.pool.used().len() {
@@ -275,20 +326,18 @@ fn after_cut(trial: &Trial, shorter: &Draft, cut: Cut) -> Vec<Trial> {
     match cut {
         Cut::Subject(gone) => {
             next.tape = tape_without(&trial.tape, gone);
-            next.start = trial.start.map(|c| config_without(&c, gone));
+            next.start = changed_config(trial.start, |c| *c = config_without(c, gone));
             if next.call == Call::Shared {
                 next.owner = down(trial.owner, gone);
             }
             vec![next]
         }
         Cut::State(s, t) => {
-            if let Some(actor) = next
-                .start
-                .as_mut()
-                .and_then(|c| c.subjects.get_mut(usize::from(s)))
-            {
-                actor.state = down(actor.state, t);
-            }
+            next.start = changed_config(trial.start, |c| {
+                if let Some(actor) = c.subjects.get_mut(usize::from(s)) {
+                    actor.state = down(actor.state, t);
+                }
+            });
             vec![next]
         }
         Cut::Exit(s, _, e) => {

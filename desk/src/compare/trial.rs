@@ -1,12 +1,14 @@
 //! One comparison of the two engines: what is asked of both, and where their answers differ.
 
-use super::counts::{Counts, TOO_SHORT};
+use super::calls::*;
+use super::counts::Counts;
 use super::flat::*;
 use crate::proved::Engine;
 use crate::second::*;
 
-/// What a buffer holds before a call.
+/// What the bytes and the numbers of a buffer are before a call.
 const UNTOUCHED: u8 = 0xa5;
+const UNTOUCHED_NUMBER: u32 = 0xa5a5_a5a5;
 
 /// The call that is compared.
 #[derive(Clone, Copy, Debug, PartialEq, Eq)]
@@ -17,7 +19,6 @@ pub enum Call {
     Step,
     Run,
     Walk,
-    ShortBuffers,
 }
 
 /// A question to both engines. A load, a share and a fresh start need only some of it.
@@ -26,9 +27,19 @@ pub struct Trial {
     pub call: Call,
     pub file: Vec<u8>,
     pub owner: u8,
-    /// Where the tape starts; the fresh start unless said otherwise.
-    pub start: Option<Config>,
+    /// Where the tape starts, in bytes; the fresh start unless said otherwise.
+    pub start: Option<[u8; CONFIG_BYTES]>,
     pub tape: Vec<u8>,
+    pub spare: Spare,
+}
+
+/// How much longer the buffers are than the call needs; below 0 they are shorter.
+#[derive(Clone, Copy, Debug, Default, PartialEq, Eq)]
+pub struct Spare {
+    /// The buffer of the configuration.
+    pub config: isize,
+    /// The buffer of the model, the values or the lines.
+    pub answer: isize,
 }
 
 /// A field by name, with what the second and the proved engine say.
@@ -55,11 +66,17 @@ impl Trial {
             owner: 0,
             start: None,
             tape: Vec::new(),
+            spare: Spare::default(),
         }
     }
 
     /// A call with a tape.
-    pub fn of_tape(call: Call, file: &[u8], start: Option<Config>, tape: &[u8]) -> Trial {
+    pub fn of_tape(
+        call: Call,
+        file: &[u8],
+        start: Option<[u8; CONFIG_BYTES]>,
+        tape: &[u8],
+    ) -> Trial {
         Trial {
             start,
             tape: tape.to_vec(),
@@ -69,17 +86,24 @@ impl Trial {
 
     /// Whether the call starts at a configuration.
     pub fn has_tape(&self) -> bool {
-        matches!(
-            self.call,
-            Call::Step | Call::Run | Call::Walk | Call::ShortBuffers
-        )
+        matches!(self.call, Call::Step | Call::Run | Call::Walk)
     }
 
-    /// The model and where it starts; a refused file stands for the empty model.
-    fn place(&self) -> (Model, Config) {
-        let model = load(&self.file).unwrap_or_default();
-        let config = self.start.unwrap_or_else(|| fresh(&model).1);
-        (model, config)
+    /// Where it starts, in a buffer with more or less bytes than it needs.
+    fn config_buffer(&self, model: &Model, counts: &mut Counts) -> Vec<u8> {
+        let start = self.start.unwrap_or_else(|| fresh(model).1.to_bytes());
+        let mut bytes = start.to_vec();
+        bytes.resize(
+            CONFIG_BYTES.saturating_add_signed(self.spare.config),
+            UNTOUCHED,
+        );
+        counts.config(&bytes);
+        bytes
+    }
+
+    /// A buffer for an answer, with more or less room than it needs.
+    fn answer_buffer<T: Copy>(&self, value: T, need: usize) -> Vec<T> {
+        vec![value; need.saturating_add_signed(self.spare.answer)]
     }
 
     /// Asks both engines.
@@ -91,34 +115,28 @@ impl Trial {
             Call::Step => self.steps_differ(engine, counts),
             Call::Run => self.run_differs(engine, counts),
             Call::Walk => self.walk_differs(engine, counts),
-            Call::ShortBuffers => self.short_buffers_differ(engine, counts),
         }
     }
 
-    /// Loading: refusal, block and the whole model.
+    /// Loading: refusal, block and the whole buffer.
     fn load_differs(&self, engine: &dyn Engine, counts: &mut Counts) -> Option<Difference> {
-        let (answer, model) = expected_load(&self.file);
-        let mut room = vec![UNTOUCHED; MODEL_BYTES];
-        let told = engine.load(&self.file, &mut room);
-        counts.file(answer as u8);
-        let difference = Difference::default().loads(answer, told);
-        if answer != told {
+        let mut second = self.answer_buffer(UNTOUCHED, MODEL_BYTES);
+        let mut proved = second.clone();
+        let expected = load_call(&self.file, &mut second);
+        let told = engine.load(&self.file, &mut proved);
+        counts.file(expected as u8);
+        let difference = Difference::default().loads(expected, told);
+        if expected != told {
             return difference.found();
         }
-        difference.bytes(model_fields, &model, &room).found()
+        difference.bytes(model_fields, &second, &proved).found()
     }
 
     /// The yes/no for one pool.
     fn share_differs(&self, engine: &dyn Engine, counts: &mut Counts) -> Option<Difference> {
-        let model = load(&self.file).unwrap_or_default();
-        let share = shared_out(&model, self.owner);
-        counts.share(share);
-        let expected = match share {
-            Share::Yes => 1,
-            Share::No => 0,
-            Share::Refused(number) => number,
-        };
+        let expected = shared_call(&model_of(&self.file), self.owner);
         let told = engine.shared(&self.file, self.owner);
+        counts.share(expected);
         let mut difference = Difference::default();
         if expected != told {
             difference.add("shared out", share_text(expected), share_text(told));
@@ -126,172 +144,83 @@ impl Trial {
         difference.found()
     }
 
-    /// The fresh start: refusal and the whole configuration.
+    /// The fresh start: refusal and the whole buffer.
     fn fresh_differs(&self, engine: &dyn Engine, counts: &mut Counts) -> Option<Difference> {
-        let (refusal, config) = fresh(&load(&self.file).unwrap_or_default());
+        let mut second = vec![UNTOUCHED; CONFIG_BYTES.saturating_add_signed(self.spare.config)];
+        let mut proved = second.clone();
+        let refusal = fresh_call(&model_of(&self.file), &mut second);
+        let told = engine.fresh(&self.file, &mut proved);
         counts.refusal(refusal);
-        let mut bytes = [UNTOUCHED; CONFIG_BYTES];
-        let told = engine.fresh(&self.file, &mut bytes);
         Difference::default()
-            .number("refusal", u64::from(refusal), u64::from(told))
-            .bytes(config_fields, &config.to_bytes(), &bytes)
+            .number("refusal", refusal, told)
+            .bytes(config_fields, &second, &proved)
             .found()
     }
 
-    /// Every command by itself: refusal, values and the whole configuration after each.
+    /// Every command by itself: refusal, and the whole buffers of the values and of the configuration after each.
     fn steps_differ(&self, engine: &dyn Engine, counts: &mut Counts) -> Option<Difference> {
-        let (model, mut config) = self.place();
-        let mut bytes = config.to_bytes();
+        let model = model_of(&self.file);
+        let mut second = self.config_buffer(&model, counts);
+        let mut proved = second.clone();
         for (i, piece) in self.tape.chunks_exact(8).enumerate() {
             let mut command = [0; 8];
             command.copy_from_slice(piece);
-            let answer = step_coded(&model, &mut config, command);
-            counts.step(piece[0], &answer);
-            let mut values = [UNTOUCHED; VALUE_BYTES];
-            let told = engine.step(&self.file, &mut bytes, piece, &mut values);
+            let mut values = self.answer_buffer(UNTOUCHED, VALUE_BYTES);
+            let mut told_values = values.clone();
+            let refusal = step_call(&model, &mut second, command, &mut values);
+            let told = engine.step(&self.file, &mut proved, piece, &mut told_values);
+            counts.step(command[0], refusal, &values);
             let difference = Difference::at(i)
-                .number("refusal", u64::from(answer.refusal()), u64::from(told))
-                .bytes(value_fields, &value_bytes(&answer), &values)
-                .bytes(config_fields, &config.to_bytes(), &bytes);
-            if difference.found().is_some() {
-                return difference.found();
+                .number("refusal", refusal, told)
+                .bytes(value_fields, &values, &told_values)
+                .bytes(config_fields, &second, &proved)
+                .found();
+            if difference.is_some() {
+                return difference;
             }
         }
         None
     }
 
-    /// A whole tape at once: every line, and the configuration at the end.
+    /// A whole tape at once: refusal, and the whole buffers of the lines and of the configuration at the end.
     fn run_differs(&self, engine: &dyn Engine, counts: &mut Counts) -> Option<Difference> {
-        let (model, mut config) = self.place();
-        let mut bytes = config.to_bytes();
-        let lines = run_tape(&model, &mut config, &self.tape);
-        counts.lines += lines.len() as u64;
-        let mut numbers = vec![u32::from(UNTOUCHED); lines.len() * 4];
-        let told = engine.run(&self.file, &mut bytes, &self.tape, &mut numbers);
-        let mut difference = Difference::default().number("answer", 0, u64::from(told));
-        for (i, (line, part)) in lines.iter().zip(numbers.chunks_exact(4)).enumerate() {
-            let expected = line_numbers(line);
-            if expected != part {
-                difference.command.get_or_insert(i);
-                for (name, (a, b)) in LINE.iter().zip(expected.iter().zip(part)) {
-                    difference.pair(&format!("line {} {name}", i + 1), *a, *b);
-                }
-            }
+        let model = model_of(&self.file);
+        let mut second = self.config_buffer(&model, counts);
+        let mut proved = second.clone();
+        let mut lines = self.answer_buffer(UNTOUCHED_NUMBER, numbers_of(&self.tape));
+        let mut told_lines = lines.clone();
+        let refusal = run_call(&model, &mut second, &self.tape, &mut lines);
+        let told = engine.run(&self.file, &mut proved, &self.tape, &mut told_lines);
+        counts.refusal(refusal);
+        if refusal == 0 {
+            counts.lines += self.tape.len() as u64 / 8;
         }
-        difference
-            .bytes(config_fields, &config.to_bytes(), &bytes)
+        Difference::default()
+            .number("refusal", refusal, told)
+            .lines(&lines, &told_lines)
+            .bytes(config_fields, &second, &proved)
             .found()
     }
 
-    /// A whole tape by one public step each: the number of commands, and the configuration at the end.
+    /// A step for each command of a tape: refusal, and the whole buffer of the configuration at the end.
     fn walk_differs(&self, engine: &dyn Engine, counts: &mut Counts) -> Option<Difference> {
-        let (model, mut config) = self.place();
-        let mut bytes = config.to_bytes();
-        let lines = run_tape(&model, &mut config, &self.tape).len();
-        counts.walked += lines as u64;
-        let told = engine.walk(&self.file, &mut bytes, &self.tape);
-        Difference::default()
-            .number("commands", lines as u64, told as u64)
-            .bytes(config_fields, &config.to_bytes(), &bytes)
-            .found()
-    }
-
-    /// Every call with a buffer one too short, which is left as it is.
-    fn short_buffers_differ(&self, engine: &dyn Engine, counts: &mut Counts) -> Option<Difference> {
-        let difference = self.short_room(engine);
-        let difference = self.short_values(engine, difference);
-        let difference = self.short_lines(engine, difference, counts);
-        self.short_configs(engine, difference).found()
-    }
-
-    /// Loading and the fresh start answer as ever.
-    fn short_room(&self, engine: &dyn Engine) -> Difference {
-        let (answer, _) = expected_load(&self.file);
-        let mut room = vec![UNTOUCHED; MODEL_BYTES - 1];
-        let told = engine.load(&self.file, &mut room);
-        let mut config = [UNTOUCHED; CONFIG_BYTES - 1];
-        let refusal = fresh(&load(&self.file).unwrap_or_default()).0;
-        let started = engine.fresh(&self.file, &mut config);
-        Difference::default()
-            .loads(answer, told)
-            .untouched("short room of a load", &room)
-            .number("refusal of a fresh start", refusal.into(), started.into())
-            .untouched("short configuration of a fresh start", &config)
-    }
-
-    /// A step with too little room for its values does all the rest.
-    fn short_values(&self, engine: &dyn Engine, difference: Difference) -> Difference {
-        let (model, mut config) = self.place();
-        let mut bytes = config.to_bytes();
-        let Some(piece) = self.tape.first_chunk::<8>() else {
-            return difference;
-        };
-        let answer = step_coded(&model, &mut config, *piece);
-        let mut values = [UNTOUCHED; VALUE_BYTES - 1];
-        let told = engine.step(&self.file, &mut bytes, piece, &mut values);
-        difference
-            .number("refusal of a step", answer.refusal().into(), told.into())
-            .untouched("short values of a step", &values)
-            .bytes(config_fields, &config.to_bytes(), &bytes)
-    }
-
-    /// A tape with too little room for its lines answers 6 and does nothing.
-    fn short_lines(
-        &self,
-        engine: &dyn Engine,
-        difference: Difference,
-        counts: &mut Counts,
-    ) -> Difference {
-        let (_, config) = self.place();
-        let mut bytes = config.to_bytes();
-        let Some(room) = (self.tape.len() / 8 * 4).checked_sub(1) else {
-            return difference;
-        };
-        let mut lines = vec![u32::from(UNTOUCHED); room];
-        let told = engine.run(&self.file, &mut bytes, &self.tape, &mut lines);
-        counts.refusal(TOO_SHORT);
-        let low: Vec<u8> = lines.iter().map(|l| (*l).min(255) as u8).collect();
-        difference
-            .number("answer of a tape", TOO_SHORT.into(), told.into())
-            .untouched("short lines of a tape", &low)
-            .bytes(config_fields, &config.to_bytes(), &bytes)
-    }
-
-    /// A configuration that is too short comes back as it was.
-    fn short_configs(&self, engine: &dyn Engine, difference: Difference) -> Difference {
-        let mut bytes = [UNTOUCHED; CONFIG_BYTES - 1];
-        let mut values = [UNTOUCHED; VALUE_BYTES];
-        if let Some(piece) = self.tape.first_chunk::<8>() {
-            engine.step(&self.file, &mut bytes, piece, &mut values);
+        let model = model_of(&self.file);
+        let mut second = self.config_buffer(&model, counts);
+        let mut proved = second.clone();
+        let refusal = walk_call(&model, &mut second, &self.tape);
+        let told = engine.walk(&self.file, &mut proved, &self.tape);
+        counts.refusal(refusal);
+        if refusal == 0 {
+            counts.walked += self.tape.len() as u64 / 8;
         }
-        let difference = difference.untouched("short configuration of a step", &bytes);
-        let mut lines = vec![0; self.tape.len() / 8 * 4];
-        engine.run(&self.file, &mut bytes, &self.tape, &mut lines);
-        let difference = difference.untouched("short configuration of a tape", &bytes);
-        engine.walk(&self.file, &mut bytes, &self.tape);
-        difference.untouched("short configuration of a walk", &bytes)
+        Difference::default()
+            .number("refusal", refusal, told)
+            .bytes(config_fields, &second, &proved)
+            .found()
     }
 }
 
 const LINE: [&str; 4] = ["refusal", "state", "word", "entries"];
-
-/// The four numbers of a tape's line.
-pub fn line_numbers(line: &Line) -> [u32; 4] {
-    [
-        u32::from(line.refusal),
-        u32::from(line.state),
-        line.word,
-        u32::from(line.entries),
-    ]
-}
-
-/// What loading must answer, and the bytes of the model.
-pub fn expected_load(file: &[u8]) -> (u16, Vec<u8>) {
-    match load(file) {
-        Ok(model) => (0, model_bytes(&model)),
-        Err(r) => (u16::from(r.number) + 256 * r.block, vec![0; MODEL_BYTES]),
-    }
-}
 
 fn load_text(answer: u16) -> String {
     match answer {
@@ -325,15 +254,9 @@ impl Difference {
         });
     }
 
-    /// Adds two numbers where they differ.
-    fn pair(&mut self, field: &str, second: u32, proved: u32) {
-        if second != proved {
-            self.add(field, second.to_string(), proved.to_string());
-        }
-    }
-
     /// With two numbers, where they differ.
-    fn number(mut self, field: &str, second: u64, proved: u64) -> Difference {
+    fn number(mut self, field: &str, second: impl Into<u64>, proved: impl Into<u64>) -> Difference {
+        let (second, proved) = (second.into(), proved.into());
         if second != proved {
             self.add(field, second.to_string(), proved.to_string());
         }
@@ -348,25 +271,36 @@ impl Difference {
         self
     }
 
-    /// With every field of two layouts that differs.
-    fn bytes(mut self, fields: fn() -> Vec<Field>, second: &[u8], proved: &[u8]) -> Difference {
-        if second == proved {
-            return self;
-        }
-        for field in fields() {
-            let (a, b) = (value_of(&field, second), value_of(&field, proved));
-            if a != b {
-                self.add(&field.name, a.to_string(), b.to_string());
+    /// With every number of two buffers of lines that differs; the first line that does is the command.
+    fn lines(mut self, second: &[u32], proved: &[u32]) -> Difference {
+        for (i, (a, b)) in second.chunks(4).zip(proved.chunks(4)).enumerate() {
+            if a == b {
+                continue;
+            }
+            self.command.get_or_insert(i);
+            for (name, (a, b)) in LINE.iter().zip(a.iter().zip(b)) {
+                self = self.number(&format!("line {} {name}", i + 1), *a, *b);
             }
         }
         self
     }
 
-    /// With a buffer that was written to though it was too short.
-    fn untouched(mut self, buffer: &str, bytes: &[u8]) -> Difference {
-        if let Some(at) = bytes.iter().position(|b| *b != UNTOUCHED) {
-            let written = format!("written at {at}");
-            self.add(buffer, "left as it is".to_string(), written);
+    /// With every field of two buffers that differs, and every byte that belongs to no whole field.
+    fn bytes(mut self, fields: fn() -> Vec<Field>, second: &[u8], proved: &[u8]) -> Difference {
+        if second == proved {
+            return self;
+        }
+        let mut named = 0;
+        for field in fields() {
+            if field.at + field.len > second.len() {
+                break;
+            }
+            named = field.at + field.len;
+            let (a, b) = (value_of(&field, second), value_of(&field, proved));
+            self = self.number(&field.name, a, b);
+        }
+        for at in named..second.len() {
+            self = self.number(&format!("byte {at}"), second[at], proved[at]);
         }
         self
     }

@@ -11,6 +11,11 @@ pub const ENDED_IMPROPERLY: u8 = 3;
 pub const ACTOR_BYTES: usize = 187;
 pub const CONFIG_BYTES: usize = 16 * ACTOR_BYTES;
 
+/// Where the byte stands that says whether entry e of subject s is a message (1) or a reservation (0).
+pub fn message_at(s: usize, e: usize) -> usize {
+    s * ACTOR_BYTES + 75 + e * 7 + 2
+}
+
 /// One entry of a pool: a message, or a reservation with content 0.
 #[derive(Clone, Copy, Debug, Default, PartialEq, Eq, Hash)]
 pub struct Entry {
@@ -186,7 +191,7 @@ fn sent_type(model: &Model, config: &Config, s: usize) -> Option<u8> {
 
 impl Config {
     /// The flat layout of the configuration.
-    pub fn to_bytes(&self) -> [u8; CONFIG_BYTES] {
+    pub fn to_bytes(self) -> [u8; CONFIG_BYTES] {
         let mut bytes = [0; CONFIG_BYTES];
         for (actor, part) in self
             .subjects
@@ -198,14 +203,15 @@ impl Config {
         bytes
     }
 
-    /// The configuration of any bytes in the flat layout.
-    pub fn from_bytes(bytes: &[u8; CONFIG_BYTES]) -> Config {
+    /// The configuration of bytes in the flat layout; none where they are too few, or where a byte that says message or
+    /// reservation is neither 0 nor 1.
+    pub fn from_bytes(bytes: &[u8]) -> Option<Config> {
         let mut config = Config::default();
-        let parts = bytes.chunks_exact(ACTOR_BYTES);
+        let parts = bytes.get(..CONFIG_BYTES)?.chunks_exact(ACTOR_BYTES);
         for (actor, part) in config.subjects.iter_mut().zip(parts) {
-            *actor = Actor::read(part);
+            *actor = Actor::read(part)?;
         }
-        config
+        Some(config)
     }
 }
 
@@ -229,8 +235,8 @@ impl Actor {
         }
     }
 
-    /// Reads the 187 bytes of one subject.
-    fn read(part: &[u8]) -> Actor {
+    /// Reads the 187 bytes of one subject; none where an entry is neither a message nor a reservation.
+    fn read(part: &[u8]) -> Option<Actor> {
         let mut actor = Actor {
             mode: part[0],
             state: part[1],
@@ -252,11 +258,15 @@ impl Actor {
             *entry = Entry {
                 sender: place[0],
                 typ: place[1],
-                message: place[2] != 0,
+                message: match place[2] {
+                    0 => false,
+                    1 => true,
+                    _ => return None,
+                },
                 content: number(&place[3..]),
             };
         }
-        actor
+        Some(actor)
     }
 }
 

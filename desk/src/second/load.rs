@@ -12,7 +12,7 @@ pub const STATE_BLOCK: u8 = 2;
 pub const EXIT_BLOCK: u8 = 3;
 pub const LIMIT_BLOCK: u8 = 4;
 
-/// Why a file was refused: the paper's number and block, and where to look.
+/// Why a file was refused: the rules' number and block, and where to look.
 #[derive(Clone, Copy, Debug, PartialEq, Eq)]
 pub struct Refused {
     pub number: u8,
@@ -165,7 +165,7 @@ fn kind_trouble(file: &[u8], b: usize) -> Option<&'static str> {
 fn last_of_its_kind(file: &[u8], b: usize) -> bool {
     let kind = file[b * BLOCK + 2];
     let next = file.chunks_exact(BLOCK).nth(b + 1);
-    next.map_or(true, |block| block[2] != kind)
+    next.is_none_or(|block| block[2] != kind)
 }
 
 impl Record<'_> {

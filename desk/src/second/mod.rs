@@ -1,4 +1,4 @@
-//! The second engine: loader, configurations and steps written from the paper alone.
+//! The second engine: loader, configurations and steps written from the rules alone (docs/RULES.md).
 
 pub mod config;
 pub mod load;

@@ -1,4 +1,4 @@
-//! The paper's own examples, either side of each edge, and the errors that look right.
+//! The rules' own examples, either side of each edge, and the errors that look right.
 
 use super::*;
 
@@ -17,7 +17,7 @@ fn state(kind: u8, exits: &[Exit]) -> State {
     }
 }
 
-/// Model P of the paper.
+/// Model P of the rules.
 pub fn model_p() -> Model {
     let send = State {
         receivers: 2,
@@ -123,7 +123,7 @@ fn model_p_prints_seven_lines() {
     let bytes: Vec<u8> = tape.iter().flat_map(|c| c.encode()).collect();
     let p = model_p();
     let mut config = fresh(&p).1;
-    let lines = run_tape(&p, &mut config, &bytes);
+    let lines = run_tape(&p, &mut config, &bytes, 28).unwrap();
     let shown: Vec<String> = lines
         .iter()
         .enumerate()
@@ -489,9 +489,30 @@ fn trusts_nobody() {
     config.subjects[0].mode = 4;
     assert_eq!(step(&p, &mut config, Command::Tick), Answer::Refused(10));
     assert_eq!(step_coded(&p, &mut config, [9; 8]), Answer::Refused(9));
-    let lines = run_tape(&p, &mut config, &[8, 1, 0, 0, 0, 0, 0, 0, 9, 1, 0]);
-    assert_eq!(lines.len(), 1);
-    assert_eq!((lines[0].refusal, lines[0].subject), (10, 0));
+}
+
+#[test]
+fn a_whole_tape_is_refused_by_model_then_configuration_then_buffer() {
+    let p = model_p();
+    let tape = [8, 1, 0, 0, 0, 0, 0, 0, 9, 1, 0, 0, 0, 0, 0, 0, 8, 0, 0];
+    let mut config = fresh(&p).1;
+    let lines = run_tape(&p, &mut config, &tape, 8).unwrap();
+    let shown: Vec<(u8, u8)> = lines.iter().map(|l| (l.refusal, l.subject)).collect();
+    assert_eq!(shown, [(0, 0), (9, 1)]);
+    let mut bad = config;
+    bad.subjects[0].mode = 4;
+    let empty = Model::default();
+    for (model, start, room, refusal) in [
+        (&p, config, 7, 6),
+        (&p, bad, 8, 10),
+        (&p, bad, 7, 10),
+        (&empty, config, 8, 8),
+        (&empty, bad, 0, 8),
+    ] {
+        let mut after = start;
+        assert_eq!(run_tape(model, &mut after, &tape, room), Err(refusal));
+        assert_eq!(after, start);
+    }
 }
 
 #[test]
@@ -499,11 +520,18 @@ fn flat_bytes_either_way() {
     let p = model_p();
     let config = after(&p, &[do_it(0, 0, 35), RESERVE_0, Command::Tick]);
     let bytes = config.to_bytes();
-    assert_eq!(Config::from_bytes(&bytes), config);
+    assert_eq!(Config::from_bytes(&bytes), Some(config));
     assert_eq!(bytes[..10], [1, 1, 1, 0, 35, 0, 0, 0, 2, 0]);
     assert_eq!(bytes[ACTOR_BYTES + 74], 1);
-    let any = [7; CONFIG_BYTES];
-    assert!(Config::from_bytes(&any).subjects[3].pool.entries[2].message);
+    let mut any = [1; CONFIG_BYTES + 1];
+    let read = Config::from_bytes(&any).unwrap();
+    assert!(read.subjects[3].pool.entries[2].message);
+    assert_eq!(Config::from_bytes(&any[..CONFIG_BYTES - 1]), None);
+    any[message_at(3, 2)] = 0;
+    let read = Config::from_bytes(&any).unwrap();
+    assert!(!read.subjects[3].pool.entries[2].message);
+    any[message_at(3, 2)] = 2;
+    assert_eq!(Config::from_bytes(&any), None);
 }
 
 #[test]

@@ -128,6 +128,7 @@ pub fn refusal_word(number: u8) -> &'static str {
         3 => "a block's number, kind, record count, fullness or unused room is wrong",
         4 => "a record breaks a rule of its own or stands out of order",
         5 => "the records do not fit together",
+        6 => "a buffer is too short",
         8 => "the model is not valid",
         9 => "no such command code",
         10 => "the configuration is not valid for the model",

@@ -6,8 +6,9 @@
 in the repository's root writes crates/cases/data/ (a file for each case, and `list` with
 the names) and crates/cases/stdout (a line `NAME REFUSAL BLOCK` for each case; 0 0: it loads).
 
-The files are built by the format of document 01 alone. The two numbers after each name are
-written by hand from its rules: nothing here reads a model file. The comments quote the document.
+The files are built by the rules of the format alone, which docs/RULES.md has. The two numbers after
+each name are written by hand from them: nothing here reads a model file. Quoted words name the rule
+that a case is about; docs/RULES.md may say it in other words.
 """
 
 import copy
@@ -275,7 +276,7 @@ BASE = Model(
     ],
 )
 
-# "Model P": the document's own.
+# "Model P": that of docs/RULES.md.
 P = Model(
     0b11,
     [(3, 0), (2, 0)],

@@ -6,8 +6,9 @@
 in the repository's root writes crates/step_cases/data/ (the model files, the tapes, and `list`
 with the names of a model file and a tape by turns) and crates/step_cases/stdout.
 
-The tapes are written by the rules of document 01 alone. What each command must give stands beside
-it and is written by hand: nothing here computes it. The comments quote the document.
+The tapes are written by the rules alone, which docs/RULES.md has. What each command must give stands
+beside it and is written by hand: nothing here computes it. Quoted words name the rule that a case is
+about; docs/RULES.md may say it in other words.
 tools/make_cases.py builds the model files; importing it writes nothing.
 
 A row of a tape:
@@ -28,6 +29,11 @@ A command may have a word before it. Each puts a number into the byte that the e
     config      3: with a configuration that is not valid (mode 4 for subject 0); likewise
     after N     4: after a tape of N such commands, run in one call; the exit byte is N
     byte N      N: plain
+
+The last line of a tape is that of the whole tape run once more in one call: the refusal, and what the
+buffer then holds, four numbers for each command. The buffer has 7 at each place before, and just enough
+places. `whole` names what is wrong in that call: `model` and `config` as above, `short` a buffer with one
+place less. It puts 16 and 1, 2, 4 for each into the ignored byte of the first command.
 """
 
 import pathlib
@@ -85,6 +91,7 @@ def model(mask, subjects, limits=(), initial={}):
 
 CODES = {"Do": 1, "Reserve": 2, "Deliver": 3, "Take": 4, "Run": 5, "Expire": 6, "Cancel": 7, "Tick": 8}
 HOW = {"value": 1, "model": 2, "config": 3}
+WHOLE = {"model": 1, "config": 2, "short": 4}
 TICK = 8
 
 
@@ -106,6 +113,12 @@ def bytes_of(text):
         values.insert(0, CODES[name])
     code, subject, exit_, word = (values + [0, 0, 0])[:4] if exit_ is None else (values[0], 0, exit_, 0)
     return bytes([code, subject, exit_, how]) + word.to_bytes(4, "little")
+
+
+def as_whole(command, wrong):
+    """The first command of a tape that is given so in one call."""
+    assert command[3] == 0, "given otherwise already"
+    return command[:3] + bytes([16 + sum(WHOLE[word] for word in wrong)]) + command[4:]
 
 
 def entry_of(text):
@@ -142,10 +155,15 @@ def named(name, model):
     return name
 
 
-def tape(name, model, text):
+def tape(name, model, text, whole="", refusal=0):
+    """`whole`: what is wrong where the whole tape is given in one call, and the `refusal` that it then gets."""
     assert name not in TAPES and name not in MODELS, name
-    rows = [line for line in text.strip().splitlines() if not line.strip().startswith("#")]
-    TAPES[name] = model, [Row(i + 1, line) for i, line in enumerate(rows)]
+    lines = [line for line in text.strip().splitlines() if not line.strip().startswith("#")]
+    rows = [Row(i + 1, line) for i, line in enumerate(lines)]
+    last = [f"tape {refusal}"] + ["7 7 7 7" if whole else row.again for row in rows]
+    if whole:
+        rows[0].command = as_whole(rows[0].command, whole.split())
+    TAPES[name] = model, rows, " ".join(last)
 
 
 # ---- Model P
@@ -1858,6 +1876,72 @@ tape("crowd", CROWD, "".join(f"""
 """)
 
 
+# ---- A small orchard: two probes and a scheduler
+
+# The scheduler takes readings in 0; where it is too dry it closes its queue in 2, waters in 3, and throws away in 6
+# what was measured before, until 4 finds no entry; then 5 opens the queue again.
+ORCHARD = named("model-orchard", model(0b111, [
+    [internal(1), send(0b100, 0, 0, cancel=0)],
+    [internal(1), send(0b100, 0, 0, cancel=0)],
+    [
+        receive((0, 0, 1), (1, 0, 1)),
+        internal(2, 0),
+        close(3),
+        internal(4),
+        ask(5, 6),
+        open_(0),
+        receive((0, 0, 4), (1, 0, 4)),
+    ],
+], [(2, 0, ANY, 2), (2, 1, ANY, 2)]))
+
+# Run in all three kinds, and 13 in another. A place given before the close is still good; a reservation is an entry.
+
+tape("orchard-day", ORCHARD, """
+    Do 0 0 35    |  0 | 1 35 0 | 1 0 0
+    Reserve 0    |  0 | 1 35 0 | 1 0 4 | -      | 4 0 0 0 0
+    Deliver 0    |  0 | 0 35 0 | 1 0 0
+    Do 1 0 80    |  0 | 1 80 0 | 1 0 0
+    Reserve 1    |  0 | 1 80 0 | 1 0 4 | -      | 4 0 0 0 0
+    Take 2 0     |  0 | 1 35 1 | 1 0 0 | 1.0
+    Do 2 0 35    |  0 | 2 35 1 | 1 0 0 | 1.0
+    # close
+    Run 2        |  0 | 3 35 1 | 1 0 0 | 1.0
+    Do 0 0 36    |  0 | 1 36 0 | 1 0 0
+    Reserve 0    |  0 | 1 36 0 | 1 0 0 | -      | 0 0 4 0 1
+    Do 2 0 12    |  0 | 4 12 1 | 1 0 0 | 1.0
+    # ask-empty, with a reservation in the pool
+    Run 2        |  0 | 6 12 1 | 1 0 0 | 1.0
+    Take 2 1     | 15 | 6 12 1 | 1 0 0 | 1.0
+    Deliver 1    |  0 | 0 80 0 | 1 0 0
+    Take 2 1     |  0 | 4 80 0 | 1 0 0
+    # ask-empty, with no entry in the pool
+    Run 2        |  0 | 5 80 0 | 1 0 0
+    Reserve 0    |  0 | 1 36 0 | 1 0 0 | -      | 0 0 4 0 1
+    # open
+    Run 2        |  0 | 0 80 0 | 1 0 0
+    Reserve 0    |  0 | 1 36 0 | 1 0 4 | -      | 4 0 0 0 0
+    Deliver 0    |  0 | 0 36 0 | 1 0 0
+    Run 2        | 13 | 0 80 1 | 1 0 0 | 0.0=36
+    Take 2 0     |  0 | 1 36 0 | 1 0 0
+""")
+
+# A whole tape is refused with 8, then 10, then 6, though its commands, given one by one, are accepted: nothing is run
+# and nothing is written.
+
+for name, whole, refusal in [
+    ("orchard-model", "model", 8),
+    ("orchard-config", "config", 10),
+    ("orchard-short", "short", 6),
+    ("orchard-model-first", "model config short", 8),
+    ("orchard-config-first", "config short", 10),
+]:
+    tape(name, ORCHARD, """
+    Do 0 0 35    |  0 | 1 35 0 | 1 0 0
+    Reserve 0    |  0 | 1 35 0 | 1 0 4 | -      | 4 0 0 0 0
+    Deliver 0    |  0 | 0 35 0 | 1 0 0
+    Take 2 0     |  0 | 1 35 0 | 1 0 0
+""", whole, refusal)
+
 # ---- The files
 
 def main():
@@ -1869,12 +1953,11 @@ def main():
     names, lines = [], []
     for name, model in MODELS.items():
         (data / name).write_bytes(file_of(model, ()))
-    for name, (model, rows) in TAPES.items():
+    for name, (model, rows, last) in TAPES.items():
         assert len(rows) <= 512, "more than the program has room for"
         (data / name).write_bytes(b"".join(row.command for row in rows))
         names += [model, name]
-        lines += [name] + [row.line for row in rows]
-        lines.append(" ".join(["tape"] + [row.again for row in rows]))
+        lines += [name] + [row.line for row in rows] + [last]
     (data / "list").write_text("".join(f"{name}\n" for name in names))
     (crate / "stdout").write_text("".join(f"{line}\n" for line in lines))
 

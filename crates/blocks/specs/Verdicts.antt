@@ -1,4 +1,4 @@
--- The number and the block that document 01 gives for each verdict on a file.
+-- The number and the block that the rules give for each verdict on a file.
 use Prim.Native.Nat.{ℕ}
 use Rattle.blocks.specs.declared.Verdict.{Verdict}
 use Rattle.blocks.specs.declared.Verdict.the-variants.{Good, Length, Check, Block, Record, Across}

@@ -1,4 +1,4 @@
--- The marked cases compute to what the paper says.
+-- The marked cases compute to what the rules say.
 use mathlib.Core.Path.{_≡_, refl}
 use mathlib.Core.Bool.{Bool, true, false, _&&_}
 use mathlib.Core.List.{List, [], _∷_, map}
@@ -44,6 +44,6 @@ marked-pass : allOf asSaid marked ≡ true
 unfolding computing marked sameNumbers asSaid
 marked-pass = refl
 
--- every marked case is as the paper says
+-- every marked case is as the rules say
 pub as-the-paper-says : AsThePaperSays
 as-the-paper-says = all-as-said marked marked-pass

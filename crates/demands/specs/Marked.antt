@@ -1,4 +1,4 @@
--- The marked cases of document 01's 'Either side of the edge': what the definitions compute, and what the paper says.
+-- The worked cases of docs/RULES.md: what the definitions compute, and what the rules say.
 use mathlib.Core.Path.{_≡_}
 use mathlib.Core.List.{List, [], _∷_, _++_, map}
 use Prim.Native.Nat.{ℕ, _+_}
@@ -81,6 +81,6 @@ marked =
     ∷ (refusalP [] (Do 2 0 35) ∷ refusalP [] (Reserve 2) ∷ refusalP [] (Deliver 2) ∷ refusalP [] (Take 2 0) ∷ refusalP [] (Run 2) ∷ refusalP [] (Expire 2) ∷ refusalP [] (Cancel 2) ∷ [], 11 ∷ 11 ∷ 11 ∷ 11 ∷ 11 ∷ 11 ∷ 11 ∷ [])
     ∷ []
 
--- every case is as the paper says
+-- every case is as the rules say
 abbrev pub AsThePaperSays : Type 0
 AsThePaperSays = map (λ (k : Case). k .0) marked ≡ map (λ (k : Case). k .1) marked

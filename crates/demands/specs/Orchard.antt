@@ -1,4 +1,4 @@
--- A small orchard beside document 01's model P: two probes that send a reading of type 0 to a valve, again and again, and the
+-- A small orchard beside model P: two probes that send a reading of type 0 to a valve, again and again, and the
 -- valve that takes it from each, again and again. A send times out after 2 ticks. Cancelled, the valve closes its queue, asks
 -- whether its pool is empty, and opens the queue again if it is. The valve's pool has a row for each probe: any type, 1.
 use mathlib.Core.List.{_∷_, _++_}

@@ -22,7 +22,7 @@ lengthRight file = eqb (length file % blockBytes) 0 && within 1 (blocks file) mo
 unfoldable pub kindRight : ℕ → ℕ → ℕ → Bool
 kindRight b before kind = cond (eqb b 0) (eqb kind 1) (within 2 kind 4 && leb before kind)
 
--- a block with fewer than 42 records is wrong where the next block has its kind. With the kinds in order that is the paper's "every
+-- a block with fewer than 42 records is wrong where the next block has its kind. With the kinds in order that is the rule "every
 -- block but the last of its kind is full"; out of order, the block out of place is named
 unfoldable pub fullRight : ℕ → ℕ → ℕ → Bool
 fullRight used kind after = eqb used mostRecords || not (eqb after kind)

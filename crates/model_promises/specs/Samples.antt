@@ -1,4 +1,4 @@
--- Document 01's model P.
+-- Model P of docs/RULES.md.
 use mathlib.Core.List.{_∷_, _++_}
 use Prim.Native.Nat.{ℕ}
 use lib.ListN.{replicate}

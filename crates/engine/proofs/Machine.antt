@@ -17,8 +17,8 @@ use Rattle.engine.proofs.configs.ValidLaws.{HeldSubject, held-by}
 subject-held : (x : Subject) (vs : List Val) → Is (row subject.the-type) x vs → HeldSubject x
 subject-held x vs p =
     let fields = p .1 .1 in
-    let mask = fields .1 .1 .1 .1 .0 in
-    let closed = fields .1 .1 .1 .1 .1 .0 in
+    let closed = fields .0 in
+    let mask = fields .1 .1 .1 .1 .1 .0 in
     let pool = fields .1 .1 .1 .1 .1 .1 .0 in
     record {
       marks = sym (length-map (x .closed) _) ∙ closed .1 .0 .1;

@@ -23,7 +23,7 @@ use Rattle.engine.specs.commands.Exact.{holdsAt, numberAt, FirstRule, No
 use Rattle.engine.specs.commands.Reserve.{answered, reserving}
 use Rattle.engine.specs.commands.Rules.{someImproper, rulesFor, firstNumber, guarded}
 use Rattle.engine.specs.Steps.{effect}
-use Rattle.engine.specs.inner.Spine.{asksOf, improperAmong}
+use Rattle.engine.specs.inner.Spine.{partsOf, asksOf, improperAmong}
 use Rattle.engine.specs.declared.Command.{Command}
 use Rattle.engine.specs.declared.Command.the-variants.{Do, Reserve, Deliver, Take, Run, Expire, Cancel, Tick}
 use Rattle.engine.specs.declared.Config.{Config}
@@ -290,7 +290,7 @@ subject-below n here x improper Tick l h = l
 -- whether a receiver ended improperly is read only where it is asked
 pub improper-read : (n : ℕ) (here : State) (x : Subject) (c : Config) (k : Command)
     → rulesFor n here x (improperAmong (asksOf here k) c) k ≡ rulesFor n here x (someImproper here c) k
-unfolding improperAmong asksOf someImproper
+unfolding improperAmong partsOf someImproper
 improper-read n here x c (Do s e w) = refl
 improper-read n here x c (Reserve s) = refl
 improper-read n here x c (Deliver s) = refl

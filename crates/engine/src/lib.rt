@@ -32,19 +32,19 @@ pub struct Pool {
 }
 
 // What is taken out of a pool, and the pool without it.
-pub struct Taken {
+pub(crate) struct Taken {
     pub content: u32,
     pub pool: Pool,
 }
 
 // A subject at work. Mode 0 is asleep, 1 running, 2 ended properly, 3 ended improperly; closed has for each sender a mask of types.
 pub struct Subject {
+    pub closed: [u32; MOST_SUBJECTS],
     pub mode: u8,
     pub state: u8,
     pub waited: u16,
     pub word: u32,
     pub mask: u16,
-    pub closed: [u32; MOST_SUBJECTS],
     pub pool: Pool,
 }
 
@@ -92,7 +92,7 @@ pub enum Command {
 }
 
 // What a receiver answers to one who wants a place.
-pub enum Reply {
+pub(crate) enum Reply {
     Placed,
     Improper,
     Closed,
@@ -100,7 +100,7 @@ pub enum Reply {
 }
 
 // The sender's mask as it grows, and who answered what.
-pub struct Places {
+pub(crate) struct Places {
     pub mask: u16,
     pub placed: u16,
     pub improper: u16,
@@ -109,20 +109,20 @@ pub struct Places {
 }
 
 // A subject that a command has reached, and what the receivers have answered so far.
-pub struct Reached {
+pub(crate) struct Reached {
     pub subject: Subject,
     pub places: Places,
 }
 
 // A command as it stood on the tape: its code, the subject that its line shows, and the command.
-pub struct Coded {
+pub(crate) struct Coded {
     pub code: u8,
     pub shown: u8,
     pub command: Command,
 }
 
 // What is written of a command.
-pub struct Line {
+pub(crate) struct Line {
     pub refusal: u8,
     pub state: u8,
     pub word: u32,

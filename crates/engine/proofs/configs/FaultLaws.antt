@@ -1,47 +1,35 @@
 -- What is read of a model to decide validity: the state at state % 32 tells the same as the state in which a subject is.
 use mathlib.Core.Path.{_≡_, refl, sym, ap, _∙_}
-use mathlib.Core.Bool.{Bool, true, false, cond}
-use Prim.Native.Nat.{ℕ, _+_, _*_, _%_, _<_}
+use mathlib.Core.Bool.{Bool, true, false, _||_}
+use mathlib.Core.List.{List}
+use Prim.Native.Nat.{ℕ, _+_, _*_, _%_, _≤_, _<_}
 use native.Mathlib.Omega.{arith}
-use borrow.Author.Tests.{eqb-true, eqb-false, lt-ltb, ltb-true, ltb-false}
+use borrow.Author.Tests.{eqb-true, eqb-false, ltb-true, ltb-false}
 use lib.Dec.{eqb, ltb}
-use lib.ListN.{getD}
+use lib.ListN.{length, getD, set}
+use lib.Seq.{getD-set-same, getD-set-other}
 use Rattle.sets.specs.Below.{allBelow}
-use Rattle.sets.proofs.Below.{all-same, table-at}
-use Rattle.sets.proofs.Groups.{in-places-at}
-use Rattle.model.specs.Records.{blankExit, withExits}
-use Rattle.model.specs.Sizes.{mostSubjects, mostExits}
-use Rattle.model.specs.Valid.{storedAt, exitNo, exitsFrom, stateAt, subjectAt, valid}
-use Rattle.model.specs.declared.Exit.{Exit}
+use Rattle.sets.proofs.Below.{all-same, all-each, table-at}
+use Rattle.model.specs.Sizes.{mostSubjects}
+use Rattle.model.specs.Valid.{stateAt, subjectAt, valid}
 use Rattle.model.specs.declared.Model.{Model}
 use Rattle.model.specs.declared.State.{State}
-use Rattle.model.specs.declared.Stored.{Stored}
 use Rattle.engine.specs.configs.Subjects.{at, hereOf}
-use Rattle.engine.specs.configs.Valid.{subjectValid, subjectRight, placeRight, typeOf}
-use Rattle.engine.specs.inner.Reads.{placeHere, readHere, firstType, typesHere, masksOf}
+use Rattle.engine.specs.configs.Valid.{subjectValid, isNobody, subjectRight, placeRight, placesRight, typeOf}
+use Rattle.engine.specs.inner.Reads.{readHere, masksOf, placesOf}
 use Rattle.engine.specs.declared.Config.{Config}
 use Rattle.engine.specs.declared.Pool.{Pool}
 use Rattle.engine.proofs.configs.ModelFacts.{subject-there}
 use Rattle.engine.proofs.configs.IndexFacts.{few-states, state-gone, state-there}
 
--- the type of the first exit is the type of the state
-first-type : (m : Model) (p : ℕ) → firstType (storedAt m p) (m .types) ≡ typeOf (stateAt m p)
-unfolding withExits exitsFrom
-first-type m p =
-    go (eqb (st .exits) 0) refl
-    ∙ sym (ap (λ (e : Exit). e .typ) (in-places-at mostExits blankExit (st .exits) (λ x. exitNo (m .targets) (m .senders) (m .types) (st .first + x)) 0 blankExit (omega arith)))
+-- where a list has f at the places below s, with f s stored at s it has f below the next
+pub noted-turn : (f : ℕ → ℕ) (l : List ℕ) (s x : ℕ) → s < length l → ((k : ℕ) → k < s → getD l k 0 ≡ f k) → x ≡ f s
+    → (k : ℕ) → k < s + 1 → getD (set l s x) k 0 ≡ f k
+noted-turn f l s x h p e k l1 = go (eqb s k) refl
   where
-    st : Stored
-    st = storedAt m p
-
-    go : (b : Bool) → eqb (st .exits) 0 ≡ b
-        → cond (eqb (st .exits) 0) 0 (getD (m .types) (st .first) 0)
-        ≡ cond (ltb 0 (st .exits)) (exitNo (m .targets) (m .senders) (m .types) (st .first + 0)) blankExit .typ
-    go true e = rw (eqb-true (st .exits) 0 e)
-    go false e =
-        let some = eqb-false (st .exits) 0 e in
-        let first : st .first + 0 ≡ st .first = omega arith in
-        rw (e, lt-ltb 0 (st .exits) (omega arith), first)
+    go : (b : Bool) → eqb s k ≡ b → getD (set l s x) k 0 ≡ f k
+    go true t = let same = eqb-true s k t in rw (← same) (getD-set-same l s x 0 h ∙ e)
+    go false t = let other = eqb-false s k t in getD-set-other l s k x 0 (λ z. other (sym z)) ∙ p k (omega arith)
 
 module _ (m : Model) (c : Config) (v : valid m ≡ true) where
   -- where the state of subject s is there, what is read is the state in which it is
@@ -60,19 +48,32 @@ module _ (m : Model) (c : Config) (v : valid m ≡ true) where
       go true e = ap (λ (st : State). subjectValid (m .n) (subjectAt m s) st (at c s)) (here-read s l (ltb-true _ _ e))
       go false e = state-gone _ _ _ _ (ltb-false _ _ e) ∙ sym (state-gone _ _ _ _ (ltb-false _ _ e))
 
-  -- where every subject is right, the masks and types that are read judge a pool alike
-  pub pool-read : allBelow (subjectRight m c) mostSubjects ≡ true → (r : ℕ) (p : Pool)
-      → allBelow (λ s. placeRight s (getD (masksOf c) s 0) (getD (typesHere m c) s 0) r p) (m .n)
-      ≡ allBelow (λ s. placeRight s (at c s .mask) (typeOf (hereOf m c s)) r p) (m .n)
-  pool-read h r p = all-same _ _ (m .n) same
+  -- where those below n are right, the others decide
+  pub subjects-rest : allBelow (subjectRight m c) (m .n) ≡ true
+      → allBelow (λ k. ltb k (m .n) || isNobody (at c k)) mostSubjects ≡ allBelow (subjectRight m c) mostSubjects
+  unfolding subjectRight
+  subjects-rest h = all-same (λ k. ltb k (m .n) || isNobody (at c k)) (subjectRight m c) mostSubjects (λ k l. go k (ltb k (m .n)) refl)
     where
-      same : (s : ℕ) → s < m .n
-          → placeRight s (getD (masksOf c) s 0) (getD (typesHere m c) s 0) r p ≡ placeRight s (at c s .mask) (typeOf (hereOf m c s)) r p
-      same s l =
+      go : (k : ℕ) (b : Bool) → ltb k (m .n) ≡ b → (ltb k (m .n) || isNobody (at c k)) ≡ subjectRight m c k
+      go k true e = rw e (sym (rw e at (all-each (subjectRight m c) (m .n) h k (ltb-true _ _ e))))
+      go k false e = rw e
+
+  -- where every subject is right, the types that are read judge the pools alike
+  pub places-read : allBelow (subjectRight m c) mostSubjects ≡ true → (types : List ℕ)
+      → ((s : ℕ) → s < m .n → getD types s 0 ≡ typeOf (readHere m c s))
+      → placesOf (m .n) types c ≡ placesRight m c
+  unfolding placesOf placesRight
+  places-read h types is = all-same _ _ (m .n) (λ r _. all-same _ _ (m .n) (same r))
+    where
+      same : (r s : ℕ) → s < m .n
+          → placeRight s (at c s .mask) (getD types s 0) r (at c r .pool) ≡ placeRight s (at c s .mask) (typeOf (hereOf m c s)) r (at c r .pool)
+      same r s l =
           let k = subject-there m v s l in
-          let typ : getD (typesHere m c) s 0 ≡ typeOf (hereOf m c s) =
-          table-at (λ i. firstType (storedAt m (placeHere c i)) (m .types)) mostSubjects s 0 k
-          ∙ first-type m (placeHere c s)
-          ∙ ap typeOf (here-read s k (state-there m c s k l h)) in
-          ap (λ (mask : ℕ). placeRight s mask (getD (typesHere m c) s 0) r p) (table-at (λ i. at c i .mask) mostSubjects s 0 k)
-          ∙ ap (λ (t : ℕ). placeRight s (at c s .mask) t r p) typ
+          ap (λ (t : ℕ). placeRight s (at c s .mask) t r (at c r .pool)) (is s l ∙ ap typeOf (here-read s k (state-there m c s k l h)))
+
+-- the masks as they are gathered judge a pool as those of the subjects
+pub masks-read : (n : ℕ) (types : List ℕ) (c : Config) (r : ℕ) (p : Pool) → n ≤ mostSubjects
+    → allBelow (λ s. placeRight s (getD (masksOf c) s 0) (getD types s 0) r p) n ≡ allBelow (λ s. placeRight s (at c s .mask) (getD types s 0) r p) n
+masks-read n types c r p h =
+    all-same _ _ n
+    (λ s l. ap (λ (mask : ℕ). placeRight s mask (getD types s 0) r p) (table-at (λ i. at c i .mask) mostSubjects s 0 (omega arith)))

@@ -5,7 +5,7 @@ ghost use Rattle.model.specs.Sizes.{mostSubjects};
 ghost use Rattle.engine.specs.pools.Sizes.{mostEntries};
 ghost use Rattle.engine.specs.pools.Pools.{Well};
 ghost use Rattle.engine.specs.commands.Turns.{targetOf};
-ghost use Rattle.engine.specs.inner.Spine.{reached, reachedAs, ownAs, answerTo};
+ghost use Rattle.engine.specs.inner.Spine.{reached, reachedAs, hasOwn, ownAs, answerTo};
 use super::deliver;
 use super::doing;
 use super::leave;
@@ -84,6 +84,19 @@ pub(crate) fn reach(
             subject: x,
             places: places,
         },
+    }
+}
+
+// An accepted command has a subject of its own to change; a tick has none.
+pub(crate) fn has_own(number: u8, k: Command) -> bool
+    ensures { λ r. ⌜ r ≡ hasOwn number k ⌝ }
+{
+    if number != 0 {
+        return false;
+    }
+    match k {
+        Command::Tick => false,
+        _ => true,
     }
 }
 

@@ -1,6 +1,6 @@
 // Whether a configuration is valid for a model.
 ghost use mathlib.Core.Path.{_≡_};
-ghost use mathlib.Core.Bool.{true, _&&_, _||_};
+ghost use mathlib.Core.Bool.{_&&_, _||_};
 ghost use Prim.Native.Nat.{_≤_};
 ghost use lib.Dec.{ltb};
 ghost use lib.ListN.{getD};
@@ -8,17 +8,17 @@ ghost use Rattle.sets.specs.Below.{allBelow};
 ghost use Rattle.model.specs.Sizes.{mostSubjects};
 ghost use Rattle.model.specs.Valid.{valid};
 ghost use Rattle.engine.specs.configs.Subjects.{at};
-ghost use Rattle.engine.specs.configs.Valid.{endRight, sleepRight, maskRight, fieldsRight, marksRight, subjectValid, isNobody, subjectRight, placeRight, placesRight, configValid, faultOf};
-ghost use Rattle.engine.specs.inner.Reads.{firstType, typesHere, masksOf};
+ghost use Rattle.engine.specs.configs.Valid.{endRight, sleepRight, maskRight, fieldsRight, marksRight, subjectValid, isNobody, placeRight, configValid, faultOf};
+ghost use Rattle.engine.specs.inner.Reads.{masksOf, placesOf};
 use crate::Config;
 use crate::Pool;
 use crate::Subject;
+use crate::commands::rules;
 use crate::pools;
 use model::MOST_STATES;
 use model::MOST_SUBJECTS;
 use model::Model;
 use model::State;
-use model::Stored;
 use sets::both;
 use sets::either;
 
@@ -132,48 +132,6 @@ fn rest_nobody(n: u8, c: Config) -> bool
     true
 }
 
-// Every subject by itself is right; those from n up are all zero.
-fn subjects_right(m: Model, c: Config) -> bool
-    requires { ⌜ valid m ≡ true ⌝ }
-    ensures { λ r. ⌜ r ≡ allBelow (subjectRight m c) mostSubjects ⌝ }
-{
-    let most = m.n as usize;
-    let mut s: usize = 0;
-    while s < most {
-        let st = m.states[s * MOST_STATES + (c.subjects[s].state % 32) as usize];
-        let here = model::unpack(st, &m.targets, &m.senders, &m.types);
-        if !subject_valid(m.n, m.subjects[s], here, c.subjects[s]) {
-            return false;
-        }
-        s += 1;
-    }
-    rest_nobody(m.n, c)
-}
-
-// The type of the first exit of a state, 0 where it has none.
-fn first_type(st: Stored, types: &[u8]) -> u8
-    ensures { λ r. ⌜ r ≡ firstType st (now (types .entry)) ⌝ }
-{
-    if st.exits == 0 {
-        return 0;
-    }
-    sets::byte(types, st.first as usize)
-}
-
-// The type that each subject sends in the state in which it is.
-fn types_here(m: Model, c: Config) -> [u8; MOST_SUBJECTS]
-    ensures { λ r. ⌜ r ≡ typesHere m c ⌝ }
-{
-    let mut found = [0u8; MOST_SUBJECTS];
-    let mut s: usize = 0;
-    while s < MOST_SUBJECTS {
-        let st = m.states[s * MOST_STATES + (c.subjects[s].state % 32) as usize];
-        found[s] = first_type(st, &m.types);
-        s += 1;
-    }
-    found
-}
-
 // The mask of each subject.
 fn masks_of(c: Config) -> [u16; MOST_SUBJECTS]
     ensures { λ r. ⌜ r ≡ masksOf c ⌝ }
@@ -209,19 +167,17 @@ fn pool_placed(
     true
 }
 
-// Every mask says where there are reservations.
-fn places_right(m: Model, c: Config) -> bool
-    requires { ⌜ valid m ≡ true ⌝ }
-    requires { ⌜ allBelow (subjectRight m c) mostSubjects ≡ true ⌝ }
-    ensures { λ r. ⌜ r ≡ placesRight m c ⌝ }
+// Every mask says where there are reservations, of the type that the subject sends.
+fn places_right(n: u8, types: [u8; MOST_SUBJECTS], c: Config) -> bool
+    requires { ⌜ n ≤ mostSubjects ⌝ }
+    ensures { λ r. ⌜ r ≡ placesOf n types c ⌝ }
 {
     let masks = masks_of(c);
-    let types = types_here(m, c);
-    let most = m.n as usize;
+    let most = n as usize;
     let mut r: usize = 0;
     while r < most {
         let x = c.subjects[r];
-        if !pool_placed(m.n, masks, types, r as u8, x.pool) {
+        if !pool_placed(n, masks, types, r as u8, x.pool) {
             return false;
         }
         r += 1;
@@ -229,17 +185,32 @@ fn places_right(m: Model, c: Config) -> bool
     true
 }
 
-// 8 where the model is not valid, 10 where the configuration is not valid for it, else 0.
-pub(crate) fn fault(m: Model, c: Config) -> u8
+// 8 where the model is not valid, 10 where the configuration is not valid for it, else 0. Whether the model is valid is asked
+// before: a model that is lent in parts, as here, is copied where it is passed on.
+pub(crate) fn fault(right: bool, m: Model, c: Config) -> u8
+    requires { ⌜ right ≡ valid m ⌝ }
     ensures { λ r. ⌜ r ≡ faultOf m c ⌝ }
 {
-    if !model::is_valid(m) {
+    if !right {
         return 8;
     }
-    if !subjects_right(m, c) {
+    let n = m.n;
+    let most = n as usize;
+    let mut types = [0u8; MOST_SUBJECTS];
+    let mut s: usize = 0;
+    while s < most {
+        let st = m.states[s * MOST_STATES + (c.subjects[s].state % 32) as usize];
+        let here = model::unpack(st, &m.targets, &m.senders, &m.types);
+        if !subject_valid(n, m.subjects[s], here, c.subjects[s]) {
+            return 10;
+        }
+        types[s] = rules::exit_at(here, 0).typ;
+        s += 1;
+    }
+    if !rest_nobody(n, c) {
         return 10;
     }
-    if !places_right(m, c) {
+    if !places_right(n, types, c) {
         return 10;
     }
     0
@@ -249,5 +220,5 @@ pub(crate) fn fault(m: Model, c: Config) -> u8
 pub fn is_valid(m: Model, c: Config) -> bool
     ensures { λ r. ⌜ r ≡ (valid m && configValid m c) ⌝ }
 {
-    fault(m, c) == 0
+    fault(model::is_valid(m), m, c) == 0
 }

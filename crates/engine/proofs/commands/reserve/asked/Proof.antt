@@ -3,7 +3,7 @@ use mathlib.Core.Path.{_≡_, sym, _∙_}
 use borrow.Author.Needs.{needs}
 use Rattle.engine.specs.pools.Sizes.{mostEntries}
 use Rattle.engine.specs.declared.Reply.the-variants.{Placed}
-use Rattle.engine.specs.inner.Spine.{servedAs, touchedAs, heardAs}
+use Rattle.engine.specs.inner.Spine.{partsOf, servedAs}
 use Rattle.engine.proofs.RoundLaws.{placed-place}
 use Rattle.engine.proofs.commands.reserve.asked.Statement.{statement}
 use Rattle.engine.proofs.commands.reserve.asked.Tie as tie
@@ -13,7 +13,7 @@ placing : (c : tie.After-reply-of) → let a = c .before .before .args in c .rep
 placing c e = placed-place _ _ _ _ (c .before .before .pre .1 .1) (sym (c .reply-of .ensures) ∙ e)
 
 returns : tie.Need-returns
-unfolding servedAs touchedAs heardAs
+unfolding servedAs partsOf
 returns c =
     let reply = c .before .before in
     rw (c .noted .ensures, c .before .with-place .ensures, reply .reply-of .ensures, reply .before .exit-at .ensures)

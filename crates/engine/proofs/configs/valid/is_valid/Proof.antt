@@ -20,11 +20,12 @@ unfolding faultOf
 fault-none m c = none (valid m) (configValid m c)
 
 returns : tie.Need-returns
-returns c = rw (c .fault .ensures) (fault-none (c .before .args .m) (c .before .args .c))
+returns c = let a = c .before .before .args in rw (c .fault .ensures) (fault-none (a .m) (a .c))
 
 pub is-valid-spec : {M : Type 1} → statement M
 is-valid-spec =
     tie.close
     (tie.spec
+    (λ c κs. search needs)
     (λ c κs. search needs)
     returns)

@@ -7,50 +7,43 @@ use borrow.Author.Needs.{needs}
 use lib.ListN.{getD}
 use Rattle.sets.specs.Below.{allBelow}
 use Rattle.sets.proofs.Below.{all-start, all-more, all-stop, all-end}
-use Rattle.model.specs.declared.Model.{Model}
-use Rattle.engine.specs.configs.Subjects.{at, hereOf}
-use Rattle.engine.specs.configs.Valid.{placeRight, placesRight, typeOf}
-use Rattle.engine.specs.inner.Reads.{masksOf, typesHere}
+use Rattle.engine.specs.configs.Subjects.{at}
+use Rattle.engine.specs.configs.Valid.{placeRight}
+use Rattle.engine.specs.inner.Reads.{masksOf, placesOf}
 use Rattle.engine.specs.declared.Config.{Config}
-use Rattle.engine.proofs.configs.FaultLaws.{pool-read}
-use Rattle.engine.proofs.configs.ModelFacts.{n-high}
+use Rattle.engine.proofs.configs.FaultLaws.{masks-read}
 use Rattle.engine.proofs.configs.valid.places_right.Statement.{statement}
 use Rattle.engine.proofs.configs.valid.places_right.Tie as tie
 
 -- the pool of r has the reservations that it must have
-abbrev placed : Model → Config → ℕ → Bool
-placed m c r = allBelow (λ s. placeRight s (at c s .mask) (typeOf (hereOf m c s)) r (at c r .pool)) (m .n)
+abbrev placed : ℕ → List ℕ → Config → ℕ → Bool
+placed n types c r = allBelow (λ s. placeRight s (at c s .mask) (getD types s 0) r (at c r .pool)) n
 
 abbrev Inv-loop : tie.InvT-loop
-Inv-loop m c masks types most r₀ r = (most ≤ 16) × (r ≤ most) × (allBelow (placed m c) r ≡ true)
+Inv-loop n types c masks most r₀ r = (most ≤ 16) × (r ≤ most) × (allBelow (placed n types c) r ≡ true)
 
 abbrev μ-loop : tie.MeasureT-loop
-μ-loop m c masks types most r₀ r = most - r
+μ-loop n types c masks most r₀ r = most - r
 
 loop-holds : tie.Need-loop-holds Inv-loop μ-loop
-loop-holds c =
-    let start = c .before .before .before in
-    (n-high (start .args .m) (start .pre .0), search needs, all-start _)
+loop-holds c = (c .before .pre, search needs, all-start _)
 
 -- what is found of a pool decides
 found : (c : tie.After-pool-placed Inv-loop μ-loop)
     → let to = c .before .before in
-    let a = to .before .before .before .before .before .args in
-    placed (a .m) (a .t2) (to .before .loop .r) ≡ c .pool-placed .result
+    let a = to .before .before .before .args in
+    placed (a .n) (a .types) (a .t3) (to .before .loop .r) ≡ c .pool-placed .result
 found c =
     let to = c .before .before in
     let known = to .before .before in
-    let start = known .before .before .before in
-    let a = start .args in
+    let a = known .before .args in
     let r = to .before .loop .r in
-    let judged : List ℕ → List ℕ → Bool = λ masks types. allBelow (λ s. placeRight s (getD masks s 0) (getD types s 0) r (at (a .t2) r .pool)) (a .m .n) in
     sym (c .pool-placed .ensures
-    ∙ ap (λ (masks : List ℕ). judged masks (known .before .types-here .result)) (known .before .before .masks-of .ensures)
-    ∙ ap (λ (types : List ℕ). judged (masksOf (a .t2)) types) (known .before .types-here .ensures)
-    ∙ pool-read (a .m) (a .t2) (start .pre .0) (start .pre .1) r (at (a .t2) r .pool))
+    ∙ ap (λ (masks : List ℕ). allBelow (λ s. placeRight s (getD masks s 0) (getD (a .types) s 0) r (at (a .t3) r .pool)) (a .n)) (known .masks-of .ensures)
+    ∙ masks-read (a .n) (a .types) (a .t3) r (at (a .t3) r .pool) (known .before .pre))
 
 returns : tie.Need-returns Inv-loop μ-loop
-unfolding placesRight
+unfolding placesOf
 returns c = sym (all-stop _ _ _ (c .before .before .before .loop-test .taken) (found (c .before) ∙ not-true _ (c .if1 .taken)))
 
 loop-again : tie.Need-loop-again Inv-loop μ-loop
@@ -59,7 +52,7 @@ loop-again c =
     (inv .0, search needs, all-more _ _ (inv .2) (found (c .before) ∙ not-false _ (c .if1 .left)))
 
 returns-2 : tie.Need-returns-2 Inv-loop μ-loop
-unfolding placesRight
+unfolding placesOf
 returns-2 c = let inv = c .before .loop .inv in sym (all-end _ _ _ (inv .1) (c .loop-test .left) (inv .2))
 
 pub places-right-spec : {M : Type 1} → statement M
@@ -69,8 +62,6 @@ places-right-spec =
     Inv-loop
     μ-loop
     (λ c κs. search needs)
-    (λ c κs. search needs)
-    (λ c. search needs)
     loop-holds
     (λ c. search needs)
     (λ c. search needs)

@@ -13,10 +13,13 @@ use model::MOST_SUBJECTS;
 use model::State;
 use sets::both;
 
-// One of a mask has ended improperly.
+// One of a mask has ended improperly. Most commands ask of none.
 pub(crate) fn some_improper(mask: u16, c: Config) -> bool
     ensures { λ r. ⌜ r ≡ improperAmong mask c ⌝ }
 {
+    if mask == 0 {
+        return false;
+    }
     let mut r: usize = 0;
     while r < MOST_SUBJECTS {
         if both(sets::has(mask, r as u8), c.subjects[r].mode == 3) {

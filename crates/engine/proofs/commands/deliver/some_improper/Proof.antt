@@ -9,6 +9,7 @@ use Rattle.sets.proofs.Below.{some-start, some-more, some-found, some-end}
 use Rattle.engine.specs.configs.Subjects.{endedImproperly, at}
 use Rattle.engine.specs.inner.Spine.{improperAmong}
 use Rattle.engine.specs.declared.Config.{Config}
+use Rattle.engine.proofs.RuleLaws.{improper-none}
 use Rattle.engine.proofs.commands.deliver.some_improper.Statement.{statement}
 use Rattle.engine.proofs.commands.deliver.some_improper.Tie as tie
 
@@ -23,29 +24,33 @@ abbrev μ-loop : tie.MeasureT-loop
 μ-loop mask c r₀ r = 16 - r
 
 loop-holds : tie.Need-loop-holds Inv-loop μ-loop
-loop-holds c = (search needs, some-start (test (c .args .mask) (c .args .t2)))
+loop-holds c = let a = c .before .args in (search needs, some-start (test (a .mask) (a .t2)))
 
 told : (c : tie.After-both Inv-loop μ-loop)
-    → let by = c .before .before .before in c .both .result ≡ test (by .before .args .mask) (by .before .args .t2) (by .loop .r)
+    → let by = c .before .before .before in c .both .result ≡ test (by .before .before .args .mask) (by .before .before .args .t2) (by .loop .r)
 told c = rw (c .both .ensures, c .before .has .ensures)
 
+-- of no one none has
 returns : tie.Need-returns Inv-loop μ-loop
-unfolding improperAmong
-returns c =
-    let by = c .before .before .before in
-    let a = by .before .before .args in
-    sym (some-found (test (a .mask) (a .t2)) _ _ (by .loop-test .taken) (sym (told (c .before)) ∙ c .if1 .taken))
-
-loop-again : tie.Need-loop-again Inv-loop μ-loop
-loop-again c =
-    let by = c .before .before .before .before in
-    let a = by .before .args in
-    (search needs, some-more (test (a .mask) (a .t2)) _ (by .loop .inv .1) (sym (told (c .before)) ∙ c .if1 .left))
+returns c = rw (c .if1 .taken) (sym (improper-none (c .before .args .t2)))
 
 returns-2 : tie.Need-returns-2 Inv-loop μ-loop
 unfolding improperAmong
 returns-2 c =
-    let a = c .before .before .args in
+    let by = c .before .before .before in
+    let a = by .before .before .before .args in
+    sym (some-found (test (a .mask) (a .t2)) _ _ (by .loop-test .taken) (sym (told (c .before)) ∙ c .if2 .taken))
+
+loop-again : tie.Need-loop-again Inv-loop μ-loop
+loop-again c =
+    let by = c .before .before .before .before in
+    let a = by .before .before .args in
+    (search needs, some-more (test (a .mask) (a .t2)) _ (by .loop .inv .1) (sym (told (c .before)) ∙ c .if2 .left))
+
+returns-3 : tie.Need-returns-3 Inv-loop μ-loop
+unfolding improperAmong
+returns-3 c =
+    let a = c .before .before .before .args in
     let inv = c .before .loop .inv in
     sym (some-end (test (a .mask) (a .t2)) _ _ (inv .0) (c .loop-test .left) (inv .1))
 
@@ -55,14 +60,15 @@ some-improper-spec =
     (tie.spec
     Inv-loop
     μ-loop
+    returns
     loop-holds
     (λ c. search needs)
     (λ c κs. search needs)
     (λ c. search needs)
     (λ c. search needs)
     (λ c κs. search needs)
-    returns
+    returns-2
     (λ c. search needs)
     (λ c. search needs)
     loop-again
-    returns-2)
+    returns-3)

@@ -79,7 +79,7 @@ loop-again c =
       all-more _ _ (inv .2) (there (valid .before) ∙ not-false _ (valid .if2 .left)),
       length-set (to .before .loop .types) s _ ∙ inv .3,
       noted-turn (λ k. typeOf (readHere (a .t2) (a .t3) k)) (to .before .loop .types) s (c .exit-at .result .typ) (omega (arith, inv .0, inv .3, to .loop-test .taken)) (inv .4)
-      (ap (λ (e : Exit). e .typ) (c .exit-at .ensures) ∙ ap typeOf (unpack .unpack .ensures)),
+          (ap (λ (e : Exit). e .typ) (c .exit-at .ensures) ∙ ap typeOf (unpack .unpack .ensures)),
     )
 
 abbrev Judged : Type 0

@@ -1,14 +1,14 @@
 -- Every call answers: with 0 or one of its numbers, and what is refused hands back what went in.
 use mathlib.Core.Path.{_≡_, refl, ap, _∙_}
 use mathlib.Core.Logic.{_≢_}
-use mathlib.Core.Bool.{Bool, true, false, _||_, cond}
+use mathlib.Core.Bool.{Bool, true, false, cond}
 use mathlib.Core.List.{List, [], _∷_}
 use Prim.Native.Nat.{ℕ}
 use borrow.Author.Tests.{ne-eqb}
-use lib.Dec.{eqb, ltb}
+use lib.Dec.{ltb}
 use lib.ListN.{length}
-use Rattle.sets.specs.Lists.{allOf}
-use Rattle.sets.proofs.Lists.{all-of-weaker}
+use Rattle.sets.specs.Lists.{allOf, isOneOf}
+use Rattle.sets.proofs.Lists.{all-of-weaker, one-more}
 use Rattle.sets.proofs.Tests.{and-both, choose}
 use Rattle.blocks.specs.Verdicts as verdicts
 use Rattle.blocks.specs.declared.Verdict.{Verdict}
@@ -35,19 +35,9 @@ use Rattle.engine.specs.Tapes.{commands, after, runRules, ran, written}
 use Rattle.engine.specs.declared.Command.{Command}
 use Rattle.engine.specs.declared.Command.the-variants.{Do, Reserve, Deliver, Take, Run, Expire, Cancel, Tick}
 use Rattle.engine_promises.proofs.Refusals.{effectOf, effect-fine, step-is, coded-is}
-use Rattle.demands.specs.Answers.{isOneOf, Answers, EveryCallAnswers}
+use Rattle.demands.specs.Answers.{Answers, EveryCallAnswers}
 
 -- ---- by any rules
-
--- the second of two tests is enough
-or-right : (a b : Bool) → b ≡ true → (a || b) ≡ true
-or-right true b h = refl
-or-right false b h = h
-
--- a number of a list is one of a longer list
-one-more : (k : ℕ) (ks : List ℕ) (number : ℕ) → isOneOf ks number ≡ true → isOneOf (k ∷ ks) number ≡ true
-unfolding isOneOf
-one-more k ks number h = or-right (eqb number k) (isOneOf ks number) h
 
 -- accepted, whatever the numbers
 answers-accepted : (ks : List ℕ) (c : Config) (r : Stepped) → refusalOf (r .answer) ≡ 0 → Answers ks c r

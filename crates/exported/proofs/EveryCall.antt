@@ -1,13 +1,13 @@
 -- Every exported call answers with one of its numbers, and refused it changes nothing.
 use mathlib.Core.Path.{_≡_, refl, sym}
-use mathlib.Core.Bool.{Bool, true, false, _||_, not}
+use mathlib.Core.Bool.{Bool, true, not}
 use mathlib.Core.List.{List, [], _∷_}
 use Prim.Native.Nat.{ℕ, zero, suc, _/_, _%_, _<_}
 use native.Mathlib.Omega.{arith}
-use borrow.Author.Tests.{eq-eqb}
 use lib.Dec.{eqb, ltb}
 use lib.ListN.{length}
-use Rattle.sets.specs.Lists.{allOf}
+use Rattle.sets.specs.Lists.{allOf, isOneOf}
+use Rattle.sets.proofs.Lists.{one-here, one-more}
 use Rattle.sets.proofs.Tests.{and-both, choose}
 use Rattle.blocks.specs.Verdicts as verdicts
 use Rattle.blocks.specs.declared.Verdict.{Verdict}
@@ -31,23 +31,11 @@ use Rattle.engine.specs.declared.Subject.{Subject}
 use Rattle.engine.specs.Tapes.{commands, ran}
 use Rattle.exported.specs.Bytes.{modelSize, configFrom, isConfig}
 use Rattle.exported.specs.Calls.{modelIn, eightOf, loaderNumber, loadRefusals, freshRefusals, stepRefusals, runIn, runRefusals, walkRefusals, shareNumber}
-use Rattle.exported.specs.Answers.{isOneOf, EveryExportedCallAnswers}
+use Rattle.exported.specs.Answers.{EveryExportedCallAnswers}
 use Rattle.exported.proofs.CallLaws.{buffer-kept}
 use Rattle.exported.proofs.LoadLaws.{load-place}
 
 -- ---- by any rules
-
-or-right : (a b : Bool) → b ≡ true → (a || b) ≡ true
-or-right true b h = refl
-or-right false b h = h
-
-one-here : (k : ℕ) (ks : List ℕ) → isOneOf (k ∷ ks) k ≡ true
-unfolding isOneOf
-one-here k ks = rw (eq-eqb k k refl)
-
-one-more : (k n : ℕ) (ks : List ℕ) → isOneOf ks n ≡ true → isOneOf (k ∷ ks) n ≡ true
-unfolding isOneOf
-one-more k n ks h = or-right (eqb n k) _ h
 
 -- 0 or one of these numbers, where each rule has one of them
 number-in : (ks : List ℕ) (list : List (Bool × ℕ)) → allOf (λ (rule : Bool × ℕ). isOneOf ks (rule .1)) list ≡ true
@@ -56,7 +44,7 @@ unfolding firstNumber allOf
 number-in ks [] all = one-here 0 ks
 number-in ks (rule ∷ rest) all =
     let b = and-both (isOneOf ks (rule .1)) (allOf (λ (r : Bool × ℕ). isOneOf ks (r .1)) rest) all in
-    choose (λ (n : ℕ). isOneOf (0 ∷ ks) n ≡ true) (rule .0) (λ _. one-more 0 (rule .1) ks (b .left)) (λ _. number-in ks rest (b .right))
+    choose (λ (n : ℕ). isOneOf (0 ∷ ks) n ≡ true) (rule .0) (λ _. one-more 0 ks (rule .1) (b .left)) (λ _. number-in ks rest (b .right))
 
 -- ---- each call
 

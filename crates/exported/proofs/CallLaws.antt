@@ -3,7 +3,7 @@ use mathlib.Core.Path.{_≡_, refl, sym, ap, _∙_}
 use mathlib.Core.Logic.{_≢_}
 use mathlib.Core.Bool.{Bool, true, false, _&&_, not, cond}
 use mathlib.Core.List.{List, [], _∷_}
-use Prim.Native.Nat.{ℕ, _≤_, _<_}
+use Prim.Native.Nat.{ℕ, _/_, _≤_, _<_}
 use native.Mathlib.Omega.{arith}
 use borrow.Author.Tests.{eqb-true, eq-eqb, ne-eqb, leb-true, ltb-false, lt-ltb, le-ltb}
 use lib.Dec.{eqb, leb, ltb}
@@ -31,7 +31,7 @@ use Rattle.model.specs.declared.State.{State}
 use Rattle.engine.specs.Steps.{codedStep}
 use Rattle.engine.specs.Tapes.{commands, after, written}
 use Rattle.engine.proofs.RuleLaws.{guarded-refusal, number-above, rules-ascend}
-use Rattle.engine.proofs.TapeLaws.{refused-unwritten}
+use Rattle.engine.proofs.TapeLaws.{ran-refusal, refused-unwritten}
 use Rattle.engine_promises.proofs.Refusals.{effectOf, effect-fine, coded-is}
 use Rattle.exported.specs.Bytes.{onto, stored, configSize, configBytes, configFrom, flagsRight, isConfig, modelSize, modelBytes}
 use Rattle.exported.specs.Calls.{unlessRefused, modelIn, eightOf, loaderNumber, loadRefusals, loadRoom, freshRefusals, freshRoom, stepIn, stepRefusals, answerBytes, stepRoom, stepValues, runIn, runRefusals, runRoom, runLines, walkRefusals, walkRoom}
@@ -100,6 +100,12 @@ pub first-rest : (v code right : Bool) (rest : List (Bool × ℕ)) → Passed v 
     → firstNumber ((not v, 8) ∷ (not code, 9) ∷ (not right, 10) ∷ rest) ≡ firstNumber rest
 unfolding firstNumber
 first-rest v code right rest p = rw (p .model, p .command, p .config)
+
+-- a rule that never holds in the place of 9
+no-nine : (v right : Bool) (rest : List (Bool × ℕ))
+    → firstNumber ((not v, 8) ∷ (not true, 9) ∷ (not right, 10) ∷ rest) ≡ firstNumber ((not v, 8) ∷ (not right, 10) ∷ rest)
+unfolding firstNumber
+no-nine v right rest = refl
 
 -- the first rule holds
 pub number-here : (b : Bool) (k : ℕ) (rest : List (Bool × ℕ)) → b ≡ true → firstNumber ((b, k) ∷ rest) ≡ k
@@ -289,16 +295,13 @@ module _ (file config tape lines : List ℕ) (n1 : ℕ)
   RunGives r c l =
       (r ≡ firstNumber (runRefusals file config tape lines)) × ((c ≡ runRoom file config tape lines) × (l ≡ runLines file config tape lines))
 
-  -- with a rule that never holds in the place of 9
-  with9 : firstNumber ((not (valid (modelIn file)), 8) ∷ (not true, 9) ∷ (not (isConfig config), 10) ∷ (not (eqb (refusalOf (runIn file config tape lines .answer)) 0), refusalOf (runIn file config tape lines .answer)) ∷ [])
-      ≡ firstNumber (runRefusals file config tape lines)
-  unfolding firstNumber
-  with9 = refl
+  -- what is judged after 8 and 10
+  abbrev behind : List (Bool × ℕ)
+  behind = (not (configValid (modelIn file) (configFrom config)), 10) ∷ (ltb (length lines / 4) (commands tape), 6) ∷ []
 
   pub run-first : n1 ≢ 0 → RunGives n1 config lines
   run-first h =
-      let rest : List (Bool × ℕ) = (not (eqb (refusalOf (runIn file config tape lines .answer)) 0), refusalOf (runIn file config tape lines .answer)) ∷ [] in
-      let e : n1 ≡ firstNumber (runRefusals file config tape lines) = first ∙ first-stop (valid (modelIn file)) true (isConfig config) rest (λ z. h (first ∙ z)) ∙ with9 in
+      let e : n1 ≡ firstNumber (runRefusals file config tape lines) = first ∙ first-stop (valid (modelIn file)) true (isConfig config) behind (λ z. h (first ∙ z)) ∙ no-nine (valid (modelIn file)) (isConfig config) behind in
       (e, (buffer-kept _ n1 config _ (sym e) h, buffer-kept _ n1 lines _ (sym e) h))
 
   pub run-passed : n1 ≡ 0 → Passed (valid (modelIn file)) true (isConfig config)
@@ -309,19 +312,29 @@ module _ (file config tape lines : List ℕ) (n1 : ℕ)
     number : n ≡ refusalOf (runIn file config tape lines .answer)
     number = said ∙ ap (λ (x : Stepped). refusalOf (x .answer)) ran-is
 
-    rest-is : firstNumber (runRefusals file config tape lines) ≡ firstNumber ((not (eqb (refusalOf (runIn file config tape lines .answer)) 0), refusalOf (runIn file config tape lines .answer)) ∷ [])
-    rest-is = sym with9 ∙ first-rest _ _ _ _ (run-passed none)
+    entire : n ≡ firstNumber (runRefusals file config tape lines)
+    entire =
+        let p = run-passed none in
+        number
+        ∙ ran-refusal (modelIn file) (configFrom config) tape (length lines)
+        ∙ number-after _ 8 behind (ap not (p .model))
+        ∙ sym (first-rest _ _ _ _ p)
+        ∙ no-nine (valid (modelIn file)) (isConfig config) behind
 
     pub run-last : n ≢ 0 → RunGives n config l
-    run-last h =
-        let some : refusalOf (runIn file config tape lines .answer) ≢ 0 = λ z. h (number ∙ z) in
-        let e : n ≡ firstNumber (runRefusals file config tape lines) = number ∙ sym (rest-is ∙ number-here _ _ [] (ap not (ne-eqb _ 0 some))) in
-        (e, (buffer-kept _ n config _ (sym e) h, wrote ∙ refused-unwritten (modelIn file) (configFrom config) tape lines some ∙ buffer-kept _ n lines _ (sym e) h))
+    run-last h = (
+      entire,
+      (
+        buffer-kept _ n config _ (sym entire) h,
+        wrote
+            ∙ refused-unwritten (modelIn file) (configFrom config) tape lines (λ z. h (number ∙ z))
+            ∙ buffer-kept _ n lines _ (sym entire) h,
+      ),
+    )
 
     pub run-done : n ≡ 0 → (c : List ℕ) → c ≡ stored config 0 (configBytes (s .config)) → RunGives 0 c l
     run-done h c p =
-        let zero : refusalOf (runIn file config tape lines .answer) ≡ 0 = sym number ∙ h in
-        let e : firstNumber (runRefusals file config tape lines) ≡ 0 = rest-is ∙ number-after _ _ [] (ap not (eq-eqb _ 0 zero)) ∙ number-none in
+        let e : firstNumber (runRefusals file config tape lines) ≡ 0 = sym entire ∙ h in
         let r = runIn file config tape lines in (
           sym e,
           (
@@ -337,15 +350,10 @@ module _ (file config tape : List ℕ) (n1 : ℕ)
   abbrev WalkGives : ℕ → List ℕ → Type 0
   WalkGives r c = (r ≡ firstNumber (walkRefusals file config)) × (c ≡ walkRoom file config tape)
 
-  walk9 : firstNumber ((not (valid (modelIn file)), 8) ∷ (not true, 9) ∷ (not (isConfig config), 10) ∷ (not (configValid (modelIn file) (configFrom config)), 10) ∷ [])
-      ≡ firstNumber (walkRefusals file config)
-  unfolding firstNumber
-  walk9 = refl
-
   pub walk-first : n1 ≢ 0 → WalkGives n1 config
   walk-first h =
       let rest : List (Bool × ℕ) = (not (configValid (modelIn file) (configFrom config)), 10) ∷ [] in
-      let e : n1 ≡ firstNumber (walkRefusals file config) = first ∙ first-stop (valid (modelIn file)) true (isConfig config) rest (λ z. h (first ∙ z)) ∙ walk9 in
+      let e : n1 ≡ firstNumber (walkRefusals file config) = first ∙ first-stop (valid (modelIn file)) true (isConfig config) rest (λ z. h (first ∙ z)) ∙ no-nine (valid (modelIn file)) (isConfig config) rest in
       (e, buffer-kept _ n1 config _ (sym e) h)
 
   pub walk-passed : n1 ≡ 0 → Passed (valid (modelIn file)) true (isConfig config)
@@ -356,7 +364,10 @@ module _ (file config tape : List ℕ) (n1 : ℕ)
     valid-config = ok-is ∙ rw (walk-passed none .model)
 
     left : firstNumber (walkRefusals file config) ≡ firstNumber ((not ok, 10) ∷ [])
-    left = sym walk9 ∙ first-rest _ _ _ _ (walk-passed none) ∙ rw valid-config
+    left =
+        sym (no-nine (valid (modelIn file)) (isConfig config) ((not (configValid (modelIn file) (configFrom config)), 10) ∷ []))
+        ∙ first-rest _ _ _ _ (walk-passed none)
+        ∙ rw valid-config
 
     pub walk-last : ok ≡ false → WalkGives 10 config
     walk-last h =

@@ -15,17 +15,13 @@ use Rattle.model.specs.Loading.{loaded}
 use Rattle.model.specs.Valid.{valid}
 use Rattle.model.specs.declared.Model.{Model}
 use Rattle.engine.specs.pools.Sizes.{mostEntries}
-use Rattle.engine.specs.configs.Answers.{refusalOf}
 use Rattle.engine.specs.configs.Shares.{sharedOut, shareOf}
-use Rattle.engine.specs.declared.Config.{Config}
 use Rattle.engine.specs.declared.Share.{Share}
 use Rattle.engine.specs.commands.Codes.{commandIn}
 use Rattle.engine.specs.commands.Rules.{firstNumber}
-use Rattle.engine.specs.Tapes.{runRules, ran}
 use Rattle.engine.proofs.RuleLaws.{number-in, ownNumbers, own-numbers}
-use Rattle.engine.proofs.TapeLaws.{ran-refusal}
-use Rattle.exported.specs.Bytes.{modelSize, configFrom, isConfig}
-use Rattle.exported.specs.Calls.{modelIn, eightOf, loaderNumber, loadRefusals, freshRefusals, stepRefusals, runIn, runRefusals, walkRefusals, shareNumber}
+use Rattle.exported.specs.Bytes.{modelSize}
+use Rattle.exported.specs.Calls.{modelIn, eightOf, loaderNumber, loadRefusals, freshRefusals, stepRefusals, runRefusals, walkRefusals, shareNumber}
 use Rattle.exported.specs.Answers.{EveryExportedCallAnswers}
 use Rattle.exported.proofs.CallLaws.{buffer-kept}
 use Rattle.exported.proofs.LoadLaws.{load-place}
@@ -67,20 +63,9 @@ load-number file room =
     choose LoadNumber (not (eqb (loaderNumber file) 0)) (λ _. loader-number file)
     (λ _. choose LoadNumber (ltb (length room) modelSize) (λ _. record { refusal = omega arith; block = omega arith }) (λ _. record { refusal = omega arith; block = omega arith }))
 
-run-number : (m : Model) (c : Config) (tape : List ℕ) (room : ℕ) → isOneOf (0 ∷ 8 ∷ 10 ∷ 6 ∷ []) (refusalOf (ran m c tape room .answer)) ≡ true
+run-number : (file config tape lines : List ℕ) → isOneOf (0 ∷ 8 ∷ 10 ∷ 6 ∷ []) (firstNumber (runRefusals file config tape lines)) ≡ true
 unfolding isOneOf allOf
-run-number m c tape room = rw (ran-refusal m c tape room) (number-in (8 ∷ 10 ∷ 6 ∷ []) (runRules m c tape room) refl)
-
-run-numbers : (file config tape lines : List ℕ) → isOneOf (0 ∷ 8 ∷ 10 ∷ 6 ∷ []) (firstNumber (runRefusals file config tape lines)) ≡ true
-unfolding firstNumber isOneOf
-run-numbers file config tape lines =
-    let P : ℕ → Type 0 = λ n. isOneOf (0 ∷ 8 ∷ 10 ∷ 6 ∷ []) n ≡ true in
-    choose P (not (valid (modelIn file))) (λ _. refl)
-    (λ _.
-    choose P (not (isConfig config)) (λ _. refl)
-    (λ _.
-    choose P (not (eqb (refusalOf (runIn file config tape lines .answer)) 0)) (λ _. run-number (modelIn file) (configFrom config) tape (length lines))
-    (λ _. refl)))
+run-number file config tape lines = number-in (8 ∷ 10 ∷ 6 ∷ []) (runRefusals file config tape lines) refl
 
 walk-number : (file config : List ℕ) → isOneOf (0 ∷ 8 ∷ 10 ∷ []) (firstNumber (walkRefusals file config)) ≡ true
 unfolding isOneOf allOf
@@ -113,7 +98,7 @@ every-exported-call-answers =
       freshRefused = λ file config h. sym (buffer-kept _ _ config _ refl h);
       step = step-number;
       stepRefused = λ file config command values h. (sym (buffer-kept _ _ config _ refl h), sym (buffer-kept _ _ values _ refl h));
-      run = run-numbers;
+      run = run-number;
       runRefused = λ file config tape lines h. (sym (buffer-kept _ _ config _ refl h), sym (buffer-kept _ _ lines _ refl h));
       walk = walk-number;
       walkRefused = λ file config tape h. sym (buffer-kept _ _ config _ refl h);

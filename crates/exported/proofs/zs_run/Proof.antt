@@ -33,7 +33,9 @@ ran-lines : (c : tie.After-run)
 ran-lines c = rw (c .run .ensures .1, c .before .before .config-from .ensures, c .before .before .before .before .before .before .before .before .before .before .load .ensures)
 
 returns : tie.Need-returns
-returns c = run-first _ _ _ _ _ (first (c .before)) (c .if1 .taken)
+returns c =
+    let a = c .before .before .before .before .before .before .before .before .before .before .args in
+    run-first _ _ (a .tape .now) _ _ (first (c .before)) (c .if1 .taken)
 
 returns-2 : tie.Need-returns-2
 returns-2 c =

@@ -1,4 +1,4 @@
-use mathlib.Core.Path.{_≡_, refl, sym, ap, _∙_}
+use mathlib.Core.Path.{_≡_, refl, ap, _∙_}
 use mathlib.Core.Bool.{true, not}
 use mathlib.Core.List.{[], _∷_}
 use borrow.Author.Needs.{needs}
@@ -9,7 +9,7 @@ use Rattle.engine.specs.commands.Rules.{firstNumber}
 use Rattle.engine.specs.Tapes.{written}
 use Rattle.exported.specs.Bytes.{configFrom, isConfig}
 use Rattle.exported.specs.Calls.{modelIn, runIn}
-use Rattle.exported.proofs.CallLaws.{first-is, config-room, run-passed, run-first, run-last, run-done, Passed}
+use Rattle.exported.proofs.CallLaws.{first-is, config-room, run-passed, run-first, run-last, run-done}
 use Rattle.exported.proofs.zs_run.Statement.{statement}
 use Rattle.exported.proofs.zs_run.Tie as tie
 

@@ -11,7 +11,7 @@ use Rattle.sets.specs.Masks.{bit}
 use Rattle.sets.proofs.Below.{none-some, none-each}
 use Rattle.sets.proofs.Masks.{none-other, other-none}
 use Rattle.sets.proofs.Tests.{not-both, and-true, and-both, is-false}
-use Rattle.model.specs.Rules.{any}
+use Rattle.model.specs.Rules.{none}
 use Rattle.model.specs.Sizes.{mostSubjects}
 use Rattle.model.specs.Valid.{valid}
 use Rattle.model.specs.declared.Model.{Model}
@@ -27,11 +27,11 @@ use Rattle.demands.specs.Due.{stepRefusal, CanBeDelivered, TimeIsOver, I
 
 -- there is a target, and the wait is not too short
 over-exact : (m : Model) (c : Config) (s : ℕ)
-    → TimeIsOver m c s ↔ ((eqb (hereOf m c s .timeout) any ≡ false) × (ltb (at c s .waited) (hereOf m c s .after) ≡ false))
+    → TimeIsOver m c s ↔ ((eqb (hereOf m c s .timeout) none ≡ false) × (ltb (at c s .waited) (hereOf m c s .after) ≡ false))
 over-exact m c s = (
-  λ o. (ne-eqb (hereOf m c s .timeout) any (o .target), le-ltb (at c s .waited) (hereOf m c s .after) (o .late)),
+  λ o. (ne-eqb (hereOf m c s .timeout) none (o .target), le-ltb (at c s .waited) (hereOf m c s .after) (o .late)),
   λ t.
-      record { target = eqb-false (hereOf m c s .timeout) any (t .0); late = ltb-false (at c s .waited) (hereOf m c s .after) (t .1) },
+      record { target = eqb-false (hereOf m c s .timeout) none (t .0); late = ltb-false (at c s .waited) (hereOf m c s .after) (t .1) },
 )
 
 module _ (m : Model) (c : Config) (s : ℕ) (v : valid m ≡ true) (g : configValid m c ≡ true) (i : InSend m c s) where

@@ -2,11 +2,11 @@
 -- refused hands back what went in. That each call ends, whatever it is given, is what a proved contract without `requires` says.
 use mathlib.Core.Path.{_≡_}
 use mathlib.Core.Logic.{_≢_}
-use mathlib.Core.Bool.{Bool, true, false, _||_}
+use mathlib.Core.Bool.{true, false}
 use mathlib.Core.List.{List, [], _∷_}
 use Prim.Native.Nat.{ℕ}
-use lib.Dec.{eqb}
 use lib.ListN.{length}
+use Rattle.sets.specs.Lists.{isOneOf}
 use Rattle.blocks.specs.Verdicts as verdicts
 use Rattle.model.specs.Loading.{emptyModel, loaded}
 use Rattle.model.specs.declared.Model.{Model}
@@ -20,10 +20,6 @@ use Rattle.engine.specs.declared.Stepped.{Stepped}
 use Rattle.engine.specs.Steps.{stepped, codedStep}
 use Rattle.engine.specs.Tapes.{ran, written}
 use Rattle.engine.specs.declared.Command.{Command}
-
-unfoldable pub isOneOf : List ℕ → ℕ → Bool
-isOneOf [] number = false
-isOneOf (k ∷ ks) number = eqb number k || isOneOf ks number
 
 -- the answer is accepted or has one of these numbers; with a number it is nothing but the number and this configuration
 pub record Answers (numbers : List ℕ) (back : Config) (answered : Stepped) : Type 0 where

@@ -4,7 +4,7 @@ use mathlib.Core.Logic.{_↔_, _≢_}
 use mathlib.Core.Bool.{true}
 use Prim.Native.Nat.{ℕ, _<_, _≤_}
 use Rattle.sets.specs.Masks.{bit}
-use Rattle.model.specs.Rules.{any}
+use Rattle.model.specs.Rules.{none}
 use Rattle.model.specs.Valid.{valid}
 use Rattle.model.specs.declared.Model.{Model}
 use Rattle.engine.specs.configs.Answers.{refusalOf}
@@ -26,7 +26,7 @@ pub record CanBeDelivered (m : Model) (c : Config) (s : ℕ) : Type 0 where
 
 -- there is a timeout, and its duration is over
 pub record TimeIsOver (m : Model) (c : Config) (s : ℕ) : Type 0 where
-  pub target : hereOf m c s .timeout ≢ any
+  pub target : hereOf m c s .timeout ≢ none
   pub late : hereOf m c s .after ≤ at c s .waited
 
 -- s is in a send state

@@ -5,22 +5,22 @@ use mathlib.Core.List.{_∷_, _++_}
 use Prim.Native.Nat.{ℕ}
 use lib.ListN.{replicate}
 use Rattle.model.specs.Records.{blankRow, blankRows, blankStored, blankSubject}
-use Rattle.model.specs.Rules.{any}
+use Rattle.model.specs.Rules.{any, none}
 use Rattle.model.specs.declared.Model.{Model}
 use Rattle.model.specs.declared.Stored.{Stored}
 use Rattle.model.specs.declared.Subject.{Subject}
 
 -- a probe's only state, with its exit at `first`
 abbrev pub sends : ℕ → Stored
-sends first = record { kind = 2; exits = 1; sender = any; typ = any; after = 2; timeout = 0; cancel = any; receivers = 2; first = first }
+sends first = record { kind = 2; exits = 1; sender = any; typ = any; after = 2; timeout = 0; cancel = none; receivers = 2; first = first }
 
 -- the valve's first state, with its exits from `first` on
 abbrev pub takes : ℕ → Stored
-takes first = record { kind = 3; exits = 2; sender = any; typ = any; after = 0; timeout = any; cancel = 1; receivers = 0; first = first }
+takes first = record { kind = 3; exits = 2; sender = any; typ = any; after = 0; timeout = none; cancel = 1; receivers = 0; first = first }
 
 -- its others, of kind close, ask-empty or open, for every sender and type
 abbrev pub forAll : ℕ → ℕ → ℕ → Stored
-forAll kind exits first = record { kind = kind; exits = exits; sender = any; typ = any; after = 0; timeout = any; cancel = any; receivers = 0; first = first }
+forAll kind exits first = record { kind = kind; exits = exits; sender = any; typ = any; after = 0; timeout = none; cancel = none; receivers = 0; first = first }
 
 abbrev pub probe : Subject
 probe = record { states = 1; initial = 0; rows = 0; row = blankRows }

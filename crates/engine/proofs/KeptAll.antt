@@ -13,7 +13,7 @@ use Rattle.sets.specs.Lists.{allOf, passing}
 use Rattle.sets.specs.Masks.{bit}
 use Rattle.sets.proofs.Tests.{not-both, choose}
 use Rattle.sets.proofs.Masks.{bit-zero}
-use Rattle.model.specs.Rules.{any}
+use Rattle.model.specs.Rules.{any, none}
 use Rattle.model.specs.Sizes.{mostSubjects}
 use Rattle.model.specs.Valid.{noSubject, subjectAt, exitAt, valid}
 use Rattle.model.specs.declared.Model.{Model}
@@ -326,13 +326,13 @@ module _ (m : Model) (v : valid m ≡ true) (c : Config) (g : GoodConfig m c) (s
         e
 
     -- a target that is not 'none' is a state
-    some-target : (t : ℕ) → (t ≡ any) ⊎ (t < subjectAt m s .states) → t ≢ any → t < subjectAt m s .states
-    some-target t h d = ⊎-elim (λ (e : t ≡ any). absurd (d e)) (λ (j : t < subjectAt m s .states). j) h
+    some-target : (t : ℕ) → (t ≡ none) ⊎ (t < subjectAt m s .states) → t ≢ none → t < subjectAt m s .states
+    some-target t h d = ⊎-elim (λ (e : t ≡ none). absurd (d e)) (λ (j : t < subjectAt m s .states). j) h
 
-    pub kept-expire : here .timeout ≢ any → (end : Bool) → end ≡ isEnd (stateOf m s (here .timeout) .kind) → GoodConfig m (leaving (here .timeout) end c s)
+    pub kept-expire : here .timeout ≢ none → (end : Bool) → end ≡ isEnd (stateOf m s (here .timeout) .kind) → GoodConfig m (leaving (here .timeout) end c s)
     kept-expire d end e = kept-leave (here .timeout) end (some-target (here .timeout) (right .timeout) d) e
 
-    pub kept-cancel : here .cancel ≢ any → (end : Bool) → end ≡ isEnd (stateOf m s (here .cancel) .kind) → GoodConfig m (leaving (here .cancel) end c s)
+    pub kept-cancel : here .cancel ≢ none → (end : Bool) → end ≡ isEnd (stateOf m s (here .cancel) .kind) → GoodConfig m (leaving (here .cancel) end c s)
     kept-cancel d end e = kept-leave (here .cancel) end (some-target (here .cancel) (right .cancel) d) e
 
 -- ---- what the machine can hold

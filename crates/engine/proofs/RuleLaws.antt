@@ -1,16 +1,18 @@
 -- Laws of the rules of a step: the first rule that holds refuses, by its number; and which rules each command has.
 use mathlib.Core.Path.{_≡_, refl, sym, ap, subst, _∙_}
 use mathlib.Core.Logic.{_↔_}
-use mathlib.Core.Bool.{Bool, true, false, _&&_, not, cond}
+use mathlib.Core.Bool.{Bool, true, false, _&&_, cond}
 use mathlib.Core.List.{List, [], _∷_, _++_}
 use Prim.Native.Nat.{ℕ, zero, suc, _≤_, _<_, suc-le-suc}
 use native.Mathlib.Nat.{not-suc-le-zero, le-of-suc-le-suc}
 use native.Mathlib.Omega.{arith}
-use borrow.Author.Tests.{leb-false, le-leb, lt-ltb, ltb-true, eqb-true, ne-eqb}
+use borrow.Author.Tests.{leb-false, le-leb, lt-ltb, ltb-true, ne-eqb}
 use lib.Dec.{eqb, ltb}
 use lib.ListN.{length}
+use Rattle.sets.specs.Lists.{allOf, isOneOf}
 use Rattle.sets.specs.Masks.{bit}
 use Rattle.sets.proofs.Below.{none-some}
+use Rattle.sets.proofs.Lists.{all-of-weaker, one-here, one-more}
 use Rattle.sets.proofs.Masks.{bit-zero}
 use Rattle.sets.proofs.Tests.{and-both, choose}
 use Rattle.model.specs.Sizes.{mostSubjects}
@@ -43,6 +45,27 @@ unfolding guarded
 guarded-keeps P c [] next now then = then
 guarded-keeps P c (rule ∷ rest) next now then =
     choose (λ (r : Stepped). P (r .config)) (rule .0) (λ _. now) (λ _. guarded-keeps P c rest next now then)
+
+-- before what is accepted, the refusal is the number of the first that holds
+pub guarded-refusal : (c : Config) (list : List (Bool × ℕ)) (next : Stepped) → refusalOf (next .answer) ≡ 0
+    → refusalOf (guarded c list next .answer) ≡ firstNumber list
+unfolding guarded firstNumber
+guarded-refusal c [] next accepted = accepted
+guarded-refusal c (rule ∷ rest) next accepted = go (rule .0) (guarded-refusal c rest next accepted)
+  where
+    go : (b : Bool) → refusalOf (guarded c rest next .answer) ≡ firstNumber rest
+        → refusalOf (cond b (refused c (rule .1)) (guarded c rest next) .answer) ≡ cond b (rule .1) (firstNumber rest)
+    go true h = refl
+    go false h = h
+
+-- where each has one of these numbers, that is 0 or one of them
+pub number-in : (ks : List ℕ) (list : List (Bool × ℕ)) → allOf (λ (rule : Bool × ℕ). isOneOf ks (rule .1)) list ≡ true
+    → isOneOf (0 ∷ ks) (firstNumber list) ≡ true
+unfolding firstNumber allOf
+number-in ks [] all = one-here 0 ks
+number-in ks (rule ∷ rest) all =
+    let b = and-both (isOneOf ks (rule .1)) (allOf (λ (r : Bool × ℕ). isOneOf ks (r .1)) rest) all in
+    choose (λ (n : ℕ). isOneOf (0 ∷ ks) n ≡ true) (rule .0) (λ _. one-more 0 ks (rule .1) (b .left)) (λ _. number-in ks rest (b .right))
 
 -- every number is more than the one before it, the first more than k
 unfoldable pub ascends : ℕ → List (Bool × ℕ) → Bool
@@ -82,6 +105,16 @@ ascends-first k rule rest up = ltb-true k (rule .1) (and-both (ltb k (rule .1)) 
 ascends-rest : (k : ℕ) (rule : Bool × ℕ) (rest : List (Bool × ℕ)) → ascends k (rule ∷ rest) ≡ true → ascends (rule .1) rest ≡ true
 unfolding ascends
 ascends-rest k rule rest up = and-both (ltb k (rule .1)) (ascends (rule .1) rest) up .right
+
+-- where one holds its number is more than k
+pub number-above : (k : ℕ) (list : List (Bool × ℕ)) → ascends k list ≡ true → (firstNumber list ≡ 0 → ⊥) → k < firstNumber list
+unfolding firstNumber
+number-above k [] up some = absurd (some refl)
+number-above k (rule ∷ rest) up some =
+    let l = ascends-first k rule rest up in
+    choose (λ (n : ℕ). (n ≡ 0 → ⊥) → k < n) (rule .0) (λ _ _. l)
+    (λ _ more. omega (arith, l, number-above (rule .1) rest (ascends-rest k rule rest up) more))
+    some
 
 -- all of them are more than k
 ascends-at : (k : ℕ) (list : List (Bool × ℕ)) → ascends k list ≡ true → (i : ℕ) → i < length list → k < numberAt list i
@@ -189,15 +222,6 @@ none-holds [] f j = refl
 none-holds (rule ∷ rest) f zero = f .none zero (omega arith)
 none-holds (rule ∷ rest) f (suc j) = none-holds rest (record { none = λ i l. f .none (suc i) (suc-le-suc l) }) j
 
--- as it is where the step is accepted
-accepted-number : (c : Config) (list : List (Bool × ℕ)) (next : Stepped) → ascends 0 list ≡ true → refusalOf (guarded c list next .answer) ≡ 0 → firstNumber list ≡ 0
-accepted-number c list next up h =
-    go (eqb (firstNumber list) 0) refl (ap (λ (r : Stepped). refusalOf (r .answer)) (sym (guarded-number c list next up)) ∙ h)
-  where
-    go : (b : Bool) → eqb (firstNumber list) 0 ≡ b → refusalOf (cond b next (refused c (firstNumber list)) .answer) ≡ 0 → firstNumber list ≡ 0
-    go true e q = eqb-true (firstNumber list) 0 e
-    go false e q = q
-
 -- Before what is accepted: by the number a reader knows which rule held first.
 module _ (c : Config) (list : List (Bool × ℕ)) (next : Stepped) (accepted : refusalOf (next .answer) ≡ 0) where
   refusal-is : (i : ℕ) → FirstRule list i → refusalOf (guarded c list next .answer) ≡ numberAt list i
@@ -224,7 +248,7 @@ module _ (c : Config) (list : List (Bool × ℕ)) (next : Stepped) (accepted : r
   -- and it is 0 exactly where no rule holds
   pub accepted-exact : ascends 0 list ≡ true → (refusalOf (guarded c list next .answer) ≡ 0) ↔ NoRule list
   accepted-exact up = (
-    λ h. number-none list up (accepted-number c list next up h),
+    λ h. number-none list up (sym (guarded-refusal c list next accepted) ∙ h),
     λ f. ap (λ (r : Stepped). refusalOf (r .answer)) (none-refuses c list next f) ∙ accepted,
   )
 
@@ -255,6 +279,25 @@ rules-ascend n here x improper (Run s) = refl
 rules-ascend n here x improper (Expire s) = refl
 rules-ascend n here x improper (Cancel s) = refl
 rules-ascend n here x improper Tick = refl
+
+-- 11 to 20
+abbrev pub ownNumbers : List ℕ
+ownNumbers = 11 ∷ 12 ∷ 13 ∷ 14 ∷ 15 ∷ 16 ∷ 17 ∷ 18 ∷ 19 ∷ 20 ∷ []
+
+-- each of them has one of these numbers, whatever stands in front
+pub own-numbers : (front : List ℕ) (n : ℕ) (here : State) (x : Subject) (improper : Bool) (k : Command)
+    → allOf (λ (rule : Bool × ℕ). isOneOf (front ++ ownNumbers) (rule .1)) (rulesFor n here x improper k) ≡ true
+unfolding isOneOf allOf
+own-numbers [] n here x improper (Do s e w) = refl
+own-numbers [] n here x improper (Reserve s) = refl
+own-numbers [] n here x improper (Deliver s) = refl
+own-numbers [] n here x improper (Take s e) = refl
+own-numbers [] n here x improper (Run s) = refl
+own-numbers [] n here x improper (Expire s) = refl
+own-numbers [] n here x improper (Cancel s) = refl
+own-numbers [] n here x improper Tick = refl
+own-numbers (j ∷ front) n here x improper k =
+    all-of-weaker _ _ (rulesFor n here x improper k) (λ rule. one-more j (front ++ ownNumbers) (rule .1)) (own-numbers front n here x improper k)
 
 -- a list that ascends from above k does so from above a smaller number
 pub ascends-from : (j k : ℕ) (list : List (Bool × ℕ)) → j ≤ k → ascends k list ≡ true → ascends j list ≡ true

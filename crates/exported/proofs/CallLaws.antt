@@ -16,7 +16,7 @@ use Rattle.model.specs.Loading.{loaded, emptyModel}
 use Rattle.model.specs.Valid.{valid}
 use Rattle.model.specs.declared.Model.{Model}
 use Rattle.model_promises.proofs.Loads.{loads-valid, refused-empty}
-use Rattle.engine.specs.configs.Answers.{refusalOf, refused}
+use Rattle.engine.specs.configs.Answers.{refusalOf}
 use Rattle.engine.specs.configs.Fresh.{freshOf}
 use Rattle.engine.specs.configs.Subjects.{hereOf}
 use Rattle.engine.specs.configs.Valid.{configValid}
@@ -24,14 +24,14 @@ use Rattle.engine.specs.declared.Config.{Config}
 use Rattle.engine.specs.declared.Stepped.{Stepped}
 use Rattle.engine.specs.commands.Codes.{subjectOf, isCode, codeIn, commandIn}
 use Rattle.engine.specs.commands.Exact.{codedRules}
-use Rattle.engine.specs.commands.Rules.{rulesFor, rules, firstNumber, guarded}
+use Rattle.engine.specs.commands.Rules.{rulesFor, rules, firstNumber}
 use Rattle.engine.specs.declared.Command.{Command}
-use Rattle.engine.specs.declared.Command.the-variants.{Do, Reserve, Deliver, Take, Run, Expire, Cancel, Tick}
 use Rattle.engine.specs.declared.Subject.{Subject}
 use Rattle.model.specs.declared.State.{State}
 use Rattle.engine.specs.Steps.{codedStep}
-use Rattle.engine.specs.Tapes.{commands, after, ran, written}
-use Rattle.engine.proofs.RuleLaws.{ascends, guarded-number, rules-ascend}
+use Rattle.engine.specs.Tapes.{commands, after, written}
+use Rattle.engine.proofs.RuleLaws.{guarded-refusal, number-above, rules-ascend}
+use Rattle.engine.proofs.TapeLaws.{ran-refusal, refused-unwritten}
 use Rattle.engine_promises.proofs.Refusals.{effectOf, effect-fine, coded-is}
 use Rattle.exported.specs.Bytes.{onto, stored, configSize, configBytes, configFrom, flagsRight, isConfig, modelSize, modelBytes}
 use Rattle.exported.specs.Calls.{unlessRefused, modelIn, eightOf, loaderNumber, loadRefusals, loadRoom, freshRefusals, freshRoom, stepIn, stepRefusals, answerBytes, stepRoom, stepValues, runIn, runRefusals, runRoom, runLines, walkRefusals, walkRoom}
@@ -100,6 +100,12 @@ pub first-rest : (v code right : Bool) (rest : List (Bool × ℕ)) → Passed v 
     → firstNumber ((not v, 8) ∷ (not code, 9) ∷ (not right, 10) ∷ rest) ≡ firstNumber rest
 unfolding firstNumber
 first-rest v code right rest p = rw (p .model, p .command, p .config)
+
+-- a rule that never holds in the place of 9
+no-nine : (v right : Bool) (rest : List (Bool × ℕ))
+    → firstNumber ((not v, 8) ∷ (not true, 9) ∷ (not right, 10) ∷ rest) ≡ firstNumber ((not v, 8) ∷ (not right, 10) ∷ rest)
+unfolding firstNumber
+no-nine v right rest = refl
 
 -- the first rule holds
 pub number-here : (b : Bool) (k : ℕ) (rest : List (Bool × ℕ)) → b ≡ true → firstNumber ((b, k) ∷ rest) ≡ k
@@ -206,43 +212,13 @@ config-room config h = leb-true configSize (length config) (and-both (leb config
 
 -- the refusal of a step is the number of the first of its rules that holds
 pub coded-number : (m : Model) (c : Config) (b : List ℕ) → refusalOf (codedStep m c b .answer) ≡ firstNumber (codedRules m c b)
-unfolding ascends
 coded-number m c b =
-    ap (λ (r : Stepped). refusalOf (r .answer)) (coded-is m c b ∙ guarded-number c (codedRules m c b) (effectOf m c (commandIn b)) (rules-ascend _ _ _ _ (commandIn b)))
-    ∙ go (eqb (firstNumber (codedRules m c b)) 0) refl
-  where
-    go : (t : Bool) → eqb (firstNumber (codedRules m c b)) 0 ≡ t
-        → refusalOf (cond t (effectOf m c (commandIn b)) (refused c (firstNumber (codedRules m c b))) .answer) ≡ firstNumber (codedRules m c b)
-    go true e = effect-fine m c (commandIn b) ∙ sym (eqb-true _ 0 e)
-    go false e = refl
+    let k = commandIn b in
+    ap (λ (r : Stepped). refusalOf (r .answer)) (coded-is m c b) ∙ guarded-refusal c (codedRules m c b) (effectOf m c k) (effect-fine m c k)
 
--- no rule has the number k
-unfoldable noneHas : ℕ → List (Bool × ℕ) → Bool
-noneHas k [] = true
-noneHas k (rule ∷ rest) = not (eqb (rule .1) k) && noneHas k rest
-
--- nor has a rule of a command the number 10
-not-ten : (n : ℕ) (here : State) (x : Subject) (improper : Bool) (k : Command) → noneHas 10 (rulesFor n here x improper k) ≡ true
-unfolding noneHas
-not-ten n here x improper (Do s e w) = refl
-not-ten n here x improper (Reserve s) = refl
-not-ten n here x improper (Deliver s) = refl
-not-ten n here x improper (Take s e) = refl
-not-ten n here x improper (Run s) = refl
-not-ten n here x improper (Expire s) = refl
-not-ten n here x improper (Cancel s) = refl
-not-ten n here x improper Tick = refl
-
-never : (k : ℕ) (list : List (Bool × ℕ)) → noneHas k list ≡ true → k ≢ 0 → firstNumber list ≢ k
-unfolding noneHas firstNumber
-never k [] h z e = z (sym e)
-never k (rule ∷ rest) h z e =
-    let b = and-both (not (eqb (rule .1) k)) (noneHas k rest) h in
-    go (rule .0) (b .left) (never k rest (b .right) z) e
-  where
-    go : (t : Bool) → not (eqb (rule .1) k) ≡ true → firstNumber rest ≢ k → cond t (rule .1) (firstNumber rest) ≢ k
-    go true h f e = not-both h (ap not (eq-eqb _ _ e))
-    go false h f e = f e
+-- no rule of a command has the number 10
+not-ten : (n : ℕ) (here : State) (x : Subject) (improper : Bool) (k : Command) → firstNumber (rulesFor n here x improper k) ≢ 10
+not-ten n here x improper k e = omega (arith, e, number-above 10 _ (rules-ascend n here x improper k) (λ z. absurd (omega (arith, e, z))))
 
 last-is : (v short : Bool) (f n : ℕ) → n ≡ cond (not v) 10 f → f ≢ 10
     → firstNumber ((eqb n 10, 10) ∷ (short, 6) ∷ (not (eqb n 0), n) ∷ []) ≡ cond (not v) 10 (cond short 6 f)
@@ -261,7 +237,7 @@ step-rest : (m : Model) (c : Config) (b : List ℕ) (short : Bool) (n : ℕ) →
 unfolding firstNumber
 step-rest m c b short n v k e =
     last-is (configValid m c) short (firstNumber (rules (m .n) (hereOf m c (subjectOf (commandIn b))) c (commandIn b))) n (e ∙ coded-number m c b ∙ rw (v, k))
-    (never 10 (rules (m .n) (hereOf m c (subjectOf (commandIn b))) c (commandIn b)) (not-ten _ _ _ _ (commandIn b)) (λ z. absurd (omega (arith, z))))
+    (not-ten _ _ _ _ (commandIn b))
 
 module _ (file config command values : List ℕ) (n1 : ℕ)
     (first : n1 ≡ firstNumber ((not (valid (modelIn file)), 8) ∷ (not (isCode (codeIn (eightOf command))), 9) ∷ (not (isConfig config), 10) ∷ [])) where
@@ -313,33 +289,19 @@ module _ (file config command values : List ℕ) (n1 : ℕ)
 
 -- ---- a whole tape
 
--- what `run` refuses it does not write: the one law here that looks into `ran` and `written`
-run-writes-none : (m : Model) (c : Config) (tape lines : List ℕ) → refusalOf (ran m c tape (length lines) .answer) ≢ 0 → written m c tape lines ≡ lines
-unfolding ran written guarded firstNumber
-run-writes-none m c tape lines some = go (valid m) (configValid m c) (ltb (length lines / 4) (commands tape)) refl refl refl
-  where
-    go : (v g b : Bool) → valid m ≡ v → configValid m c ≡ g → ltb (length lines / 4) (commands tape) ≡ b → written m c tape lines ≡ lines
-    go false g b p q e = rw p
-    go true false b p q e = rw (p, q)
-    go true true true p q e = rw (p, q, e)
-    go true true false p q e = absurd (some (rw (p, q, e)))
-
 module _ (file config tape lines : List ℕ) (n1 : ℕ)
     (first : n1 ≡ firstNumber ((not (valid (modelIn file)), 8) ∷ (not true, 9) ∷ (not (isConfig config), 10) ∷ [])) where
   abbrev RunGives : ℕ → List ℕ → List ℕ → Type 0
   RunGives r c l =
       (r ≡ firstNumber (runRefusals file config tape lines)) × ((c ≡ runRoom file config tape lines) × (l ≡ runLines file config tape lines))
 
-  -- with a rule that never holds in the place of 9
-  with9 : firstNumber ((not (valid (modelIn file)), 8) ∷ (not true, 9) ∷ (not (isConfig config), 10) ∷ (not (eqb (refusalOf (runIn file config tape lines .answer)) 0), refusalOf (runIn file config tape lines .answer)) ∷ [])
-      ≡ firstNumber (runRefusals file config tape lines)
-  unfolding firstNumber
-  with9 = refl
+  -- what is judged after 8 and 10
+  abbrev behind : List (Bool × ℕ)
+  behind = (not (configValid (modelIn file) (configFrom config)), 10) ∷ (ltb (length lines / 4) (commands tape), 6) ∷ []
 
   pub run-first : n1 ≢ 0 → RunGives n1 config lines
   run-first h =
-      let rest : List (Bool × ℕ) = (not (eqb (refusalOf (runIn file config tape lines .answer)) 0), refusalOf (runIn file config tape lines .answer)) ∷ [] in
-      let e : n1 ≡ firstNumber (runRefusals file config tape lines) = first ∙ first-stop (valid (modelIn file)) true (isConfig config) rest (λ z. h (first ∙ z)) ∙ with9 in
+      let e : n1 ≡ firstNumber (runRefusals file config tape lines) = first ∙ first-stop (valid (modelIn file)) true (isConfig config) behind (λ z. h (first ∙ z)) ∙ no-nine (valid (modelIn file)) (isConfig config) behind in
       (e, (buffer-kept _ n1 config _ (sym e) h, buffer-kept _ n1 lines _ (sym e) h))
 
   pub run-passed : n1 ≡ 0 → Passed (valid (modelIn file)) true (isConfig config)
@@ -350,19 +312,29 @@ module _ (file config tape lines : List ℕ) (n1 : ℕ)
     number : n ≡ refusalOf (runIn file config tape lines .answer)
     number = said ∙ ap (λ (x : Stepped). refusalOf (x .answer)) ran-is
 
-    rest-is : firstNumber (runRefusals file config tape lines) ≡ firstNumber ((not (eqb (refusalOf (runIn file config tape lines .answer)) 0), refusalOf (runIn file config tape lines .answer)) ∷ [])
-    rest-is = sym with9 ∙ first-rest _ _ _ _ (run-passed none)
+    entire : n ≡ firstNumber (runRefusals file config tape lines)
+    entire =
+        let p = run-passed none in
+        number
+        ∙ ran-refusal (modelIn file) (configFrom config) tape (length lines)
+        ∙ number-after _ 8 behind (ap not (p .model))
+        ∙ sym (first-rest _ _ _ _ p)
+        ∙ no-nine (valid (modelIn file)) (isConfig config) behind
 
     pub run-last : n ≢ 0 → RunGives n config l
-    run-last h =
-        let some : refusalOf (runIn file config tape lines .answer) ≢ 0 = λ z. h (number ∙ z) in
-        let e : n ≡ firstNumber (runRefusals file config tape lines) = number ∙ sym (rest-is ∙ number-here _ _ [] (ap not (ne-eqb _ 0 some))) in
-        (e, (buffer-kept _ n config _ (sym e) h, wrote ∙ run-writes-none (modelIn file) (configFrom config) tape lines some ∙ buffer-kept _ n lines _ (sym e) h))
+    run-last h = (
+      entire,
+      (
+        buffer-kept _ n config _ (sym entire) h,
+        wrote
+            ∙ refused-unwritten (modelIn file) (configFrom config) tape lines (λ z. h (number ∙ z))
+            ∙ buffer-kept _ n lines _ (sym entire) h,
+      ),
+    )
 
     pub run-done : n ≡ 0 → (c : List ℕ) → c ≡ stored config 0 (configBytes (s .config)) → RunGives 0 c l
     run-done h c p =
-        let zero : refusalOf (runIn file config tape lines .answer) ≡ 0 = sym number ∙ h in
-        let e : firstNumber (runRefusals file config tape lines) ≡ 0 = rest-is ∙ number-after _ _ [] (ap not (eq-eqb _ 0 zero)) ∙ number-none in
+        let e : firstNumber (runRefusals file config tape lines) ≡ 0 = sym entire ∙ h in
         let r = runIn file config tape lines in (
           sym e,
           (
@@ -378,15 +350,10 @@ module _ (file config tape : List ℕ) (n1 : ℕ)
   abbrev WalkGives : ℕ → List ℕ → Type 0
   WalkGives r c = (r ≡ firstNumber (walkRefusals file config)) × (c ≡ walkRoom file config tape)
 
-  walk9 : firstNumber ((not (valid (modelIn file)), 8) ∷ (not true, 9) ∷ (not (isConfig config), 10) ∷ (not (configValid (modelIn file) (configFrom config)), 10) ∷ [])
-      ≡ firstNumber (walkRefusals file config)
-  unfolding firstNumber
-  walk9 = refl
-
   pub walk-first : n1 ≢ 0 → WalkGives n1 config
   walk-first h =
       let rest : List (Bool × ℕ) = (not (configValid (modelIn file) (configFrom config)), 10) ∷ [] in
-      let e : n1 ≡ firstNumber (walkRefusals file config) = first ∙ first-stop (valid (modelIn file)) true (isConfig config) rest (λ z. h (first ∙ z)) ∙ walk9 in
+      let e : n1 ≡ firstNumber (walkRefusals file config) = first ∙ first-stop (valid (modelIn file)) true (isConfig config) rest (λ z. h (first ∙ z)) ∙ no-nine (valid (modelIn file)) (isConfig config) rest in
       (e, buffer-kept _ n1 config _ (sym e) h)
 
   pub walk-passed : n1 ≡ 0 → Passed (valid (modelIn file)) true (isConfig config)
@@ -397,7 +364,10 @@ module _ (file config tape : List ℕ) (n1 : ℕ)
     valid-config = ok-is ∙ rw (walk-passed none .model)
 
     left : firstNumber (walkRefusals file config) ≡ firstNumber ((not ok, 10) ∷ [])
-    left = sym walk9 ∙ first-rest _ _ _ _ (walk-passed none) ∙ rw valid-config
+    left =
+        sym (no-nine (valid (modelIn file)) (isConfig config) ((not (configValid (modelIn file) (configFrom config)), 10) ∷ []))
+        ∙ first-rest _ _ _ _ (walk-passed none)
+        ∙ rw valid-config
 
     pub walk-last : ok ≡ false → WalkGives 10 config
     walk-last h =

@@ -1,64 +1,30 @@
 -- Every exported call answers with one of its numbers, and refused it changes nothing.
 use mathlib.Core.Path.{_≡_, refl, sym}
-use mathlib.Core.Bool.{Bool, true, false, _||_, not}
+use mathlib.Core.Bool.{true, not}
 use mathlib.Core.List.{List, [], _∷_}
 use Prim.Native.Nat.{ℕ, zero, suc, _/_, _%_, _<_}
 use native.Mathlib.Omega.{arith}
-use borrow.Author.Tests.{eq-eqb}
 use lib.Dec.{eqb, ltb}
 use lib.ListN.{length}
-use Rattle.sets.specs.Lists.{allOf}
-use Rattle.sets.proofs.Tests.{and-both, choose}
+use Rattle.sets.specs.Lists.{allOf, isOneOf}
+use Rattle.sets.proofs.Tests.{choose}
 use Rattle.blocks.specs.Verdicts as verdicts
 use Rattle.blocks.specs.declared.Verdict.{Verdict}
 use Rattle.blocks.specs.declared.Verdict.the-variants.{Good, Length, Check, Block, Record, Across}
 use Rattle.model.specs.Loading.{loaded}
 use Rattle.model.specs.Valid.{valid}
 use Rattle.model.specs.declared.Model.{Model}
-use Rattle.model.specs.declared.State.{State}
 use Rattle.engine.specs.pools.Sizes.{mostEntries}
-use Rattle.engine.specs.configs.Answers.{refusalOf}
 use Rattle.engine.specs.configs.Shares.{sharedOut, shareOf}
-use Rattle.engine.specs.configs.Valid.{configValid}
-use Rattle.engine.specs.declared.Config.{Config}
 use Rattle.engine.specs.declared.Share.{Share}
-use Rattle.engine.specs.declared.Stepped.{Stepped}
 use Rattle.engine.specs.commands.Codes.{commandIn}
-use Rattle.engine.specs.commands.Rules.{rulesFor, firstNumber, guarded}
-use Rattle.engine.specs.declared.Command.{Command}
-use Rattle.engine.specs.declared.Command.the-variants.{Do, Reserve, Deliver, Take, Run, Expire, Cancel, Tick}
-use Rattle.engine.specs.declared.Subject.{Subject}
-use Rattle.engine.specs.Tapes.{commands, ran}
-use Rattle.exported.specs.Bytes.{modelSize, configFrom, isConfig}
-use Rattle.exported.specs.Calls.{modelIn, eightOf, loaderNumber, loadRefusals, freshRefusals, stepRefusals, runIn, runRefusals, walkRefusals, shareNumber}
-use Rattle.exported.specs.Answers.{isOneOf, EveryExportedCallAnswers}
+use Rattle.engine.specs.commands.Rules.{firstNumber}
+use Rattle.engine.proofs.RuleLaws.{number-in, ownNumbers, own-numbers}
+use Rattle.exported.specs.Bytes.{modelSize}
+use Rattle.exported.specs.Calls.{modelIn, eightOf, loaderNumber, loadRefusals, freshRefusals, stepRefusals, runRefusals, walkRefusals, shareNumber}
+use Rattle.exported.specs.Answers.{EveryExportedCallAnswers}
 use Rattle.exported.proofs.CallLaws.{buffer-kept}
 use Rattle.exported.proofs.LoadLaws.{load-place}
-
--- ---- by any rules
-
-or-right : (a b : Bool) → b ≡ true → (a || b) ≡ true
-or-right true b h = refl
-or-right false b h = h
-
-one-here : (k : ℕ) (ks : List ℕ) → isOneOf (k ∷ ks) k ≡ true
-unfolding isOneOf
-one-here k ks = rw (eq-eqb k k refl)
-
-one-more : (k n : ℕ) (ks : List ℕ) → isOneOf ks n ≡ true → isOneOf (k ∷ ks) n ≡ true
-unfolding isOneOf
-one-more k n ks h = or-right (eqb n k) _ h
-
--- 0 or one of these numbers, where each rule has one of them
-number-in : (ks : List ℕ) (list : List (Bool × ℕ)) → allOf (λ (rule : Bool × ℕ). isOneOf ks (rule .1)) list ≡ true
-    → isOneOf (0 ∷ ks) (firstNumber list) ≡ true
-unfolding firstNumber allOf
-number-in ks [] all = one-here 0 ks
-number-in ks (rule ∷ rest) all =
-    let b = and-both (isOneOf ks (rule .1)) (allOf (λ (r : Bool × ℕ). isOneOf ks (r .1)) rest) all in
-    choose (λ (n : ℕ). isOneOf (0 ∷ ks) n ≡ true) (rule .0) (λ _. one-more 0 (rule .1) ks (b .left)) (λ _. number-in ks rest (b .right))
-
--- ---- each call
 
 -- every verdict has a number from 0 to 5
 verdict-number : (v : Verdict) → verdicts.refusalOf v < 6
@@ -97,58 +63,23 @@ load-number file room =
     choose LoadNumber (not (eqb (loaderNumber file) 0)) (λ _. loader-number file)
     (λ _. choose LoadNumber (ltb (length room) modelSize) (λ _. record { refusal = omega arith; block = omega arith }) (λ _. record { refusal = omega arith; block = omega arith }))
 
--- what `run` refuses: the one law here that looks into `ran`
-run-number : (m : Model) (c : Config) (tape : List ℕ) (room : ℕ) → isOneOf (0 ∷ 8 ∷ 10 ∷ 6 ∷ []) (refusalOf (ran m c tape room .answer)) ≡ true
-unfolding ran guarded isOneOf
-run-number m c tape room =
-    let P : Stepped → Type 0 = λ s. isOneOf (0 ∷ 8 ∷ 10 ∷ 6 ∷ []) (refusalOf (s .answer)) ≡ true in
-    choose P (not (valid m)) (λ _. refl)
-    (λ _. choose P (not (configValid m c)) (λ _. refl) (λ _. choose P (ltb (room / 4) (commands tape)) (λ _. refl) (λ _. refl)))
-
-run-numbers : (file config tape lines : List ℕ) → isOneOf (0 ∷ 8 ∷ 10 ∷ 6 ∷ []) (firstNumber (runRefusals file config tape lines)) ≡ true
-unfolding firstNumber isOneOf
-run-numbers file config tape lines =
-    let P : ℕ → Type 0 = λ n. isOneOf (0 ∷ 8 ∷ 10 ∷ 6 ∷ []) n ≡ true in
-    choose P (not (valid (modelIn file))) (λ _. refl)
-    (λ _.
-    choose P (not (isConfig config)) (λ _. refl)
-    (λ _.
-    choose P (not (eqb (refusalOf (runIn file config tape lines .answer)) 0)) (λ _. run-number (modelIn file) (configFrom config) tape (length lines))
-    (λ _. refl)))
+run-number : (file config tape lines : List ℕ) → isOneOf (0 ∷ 8 ∷ 10 ∷ 6 ∷ []) (firstNumber (runRefusals file config tape lines)) ≡ true
+unfolding isOneOf allOf
+run-number file config tape lines = number-in (8 ∷ 10 ∷ 6 ∷ []) (runRefusals file config tape lines) refl
 
 walk-number : (file config : List ℕ) → isOneOf (0 ∷ 8 ∷ 10 ∷ []) (firstNumber (walkRefusals file config)) ≡ true
-unfolding firstNumber isOneOf
-walk-number file config =
-    let P : ℕ → Type 0 = λ n. isOneOf (0 ∷ 8 ∷ 10 ∷ []) n ≡ true in
-    choose P (not (valid (modelIn file))) (λ _. refl)
-    (λ _.
-    choose P (not (isConfig config)) (λ _. refl)
-    (λ _. choose P (not (configValid (modelIn file) (configFrom config))) (λ _. refl) (λ _. refl)))
+unfolding isOneOf allOf
+walk-number file config = number-in (8 ∷ 10 ∷ []) (walkRefusals file config) refl
 
 fresh-number : (file config : List ℕ) → isOneOf (0 ∷ 8 ∷ 6 ∷ []) (firstNumber (freshRefusals file config)) ≡ true
 unfolding isOneOf allOf
 fresh-number file config = number-in (8 ∷ 6 ∷ []) (freshRefusals file config) refl
 
--- the numbers of a step
-abbrev stepNumbers : List ℕ
-stepNumbers = 8 ∷ 9 ∷ 10 ∷ 6 ∷ 11 ∷ 12 ∷ 13 ∷ 14 ∷ 15 ∷ 16 ∷ 17 ∷ 18 ∷ 19 ∷ 20 ∷ []
-
-own-numbers : (n : ℕ) (here : State) (x : Subject) (improper : Bool) (k : Command)
-    → allOf (λ (rule : Bool × ℕ). isOneOf stepNumbers (rule .1)) (rulesFor n here x improper k) ≡ true
-unfolding isOneOf allOf
-own-numbers n here x improper (Do s e w) = refl
-own-numbers n here x improper (Reserve s) = refl
-own-numbers n here x improper (Deliver s) = refl
-own-numbers n here x improper (Take s e) = refl
-own-numbers n here x improper (Run s) = refl
-own-numbers n here x improper (Expire s) = refl
-own-numbers n here x improper (Cancel s) = refl
-own-numbers n here x improper Tick = refl
-
-step-number : (file config command values : List ℕ) → isOneOf (0 ∷ stepNumbers) (firstNumber (stepRefusals file config command values)) ≡ true
+step-number : (file config command values : List ℕ)
+    → isOneOf (0 ∷ 8 ∷ 9 ∷ 10 ∷ 6 ∷ ownNumbers) (firstNumber (stepRefusals file config command values)) ≡ true
 unfolding isOneOf allOf
 step-number file config command values =
-    number-in stepNumbers (stepRefusals file config command values) (own-numbers _ _ _ _ (commandIn (eightOf command)))
+    number-in (8 ∷ 9 ∷ 10 ∷ 6 ∷ ownNumbers) (stepRefusals file config command values) (own-numbers (8 ∷ 9 ∷ 10 ∷ 6 ∷ []) _ _ _ _ (commandIn (eightOf command)))
 
 shared-number : (m : Model) (owner : ℕ) → isOneOf (0 ∷ 1 ∷ 8 ∷ 11 ∷ []) (shareNumber (shareOf mostEntries m owner)) ≡ true
 unfolding shareOf isOneOf
@@ -167,7 +98,7 @@ every-exported-call-answers =
       freshRefused = λ file config h. sym (buffer-kept _ _ config _ refl h);
       step = step-number;
       stepRefused = λ file config command values h. (sym (buffer-kept _ _ config _ refl h), sym (buffer-kept _ _ values _ refl h));
-      run = run-numbers;
+      run = run-number;
       runRefused = λ file config tape lines h. (sym (buffer-kept _ _ config _ refl h), sym (buffer-kept _ _ lines _ refl h));
       walk = walk-number;
       walkRefused = λ file config tape h. sym (buffer-kept _ _ config _ refl h);

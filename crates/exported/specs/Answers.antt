@@ -2,18 +2,14 @@
 -- each call ends is what a proved contract without `requires` says.
 use mathlib.Core.Path.{_≡_}
 use mathlib.Core.Logic.{_≢_}
-use mathlib.Core.Bool.{Bool, true, false, _||_}
+use mathlib.Core.Bool.{true}
 use mathlib.Core.List.{List, [], _∷_}
 use Prim.Native.Nat.{ℕ, _/_, _%_, _<_}
-use lib.Dec.{eqb}
+use Rattle.sets.specs.Lists.{isOneOf}
 use Rattle.engine.specs.pools.Sizes.{mostEntries}
 use Rattle.engine.specs.configs.Shares.{shareOf}
 use Rattle.engine.specs.commands.Rules.{firstNumber}
 use Rattle.exported.specs.Calls.{modelIn, loadRefusals, loadRoom, freshRefusals, freshRoom, stepRefusals, stepRoom, stepValues, runRefusals, runRoom, runLines, walkRefusals, walkRoom, shareNumber}
-
-unfoldable pub isOneOf : List ℕ → ℕ → Bool
-isOneOf [] number = false
-isOneOf (k ∷ ks) number = eqb number k || isOneOf ks number
 
 -- what each call answers, for every input
 pub record EveryExportedCallAnswers : Type 0 where

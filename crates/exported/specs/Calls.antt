@@ -11,7 +11,7 @@ use Rattle.blocks.specs.Verdicts as verdicts
 use Rattle.model.specs.Loading.{loaded}
 use Rattle.model.specs.Valid.{valid}
 use Rattle.model.specs.declared.Model.{Model}
-use Rattle.engine.specs.configs.Answers.{refusalOf, valuesOf}
+use Rattle.engine.specs.configs.Answers.{valuesOf}
 use Rattle.engine.specs.configs.Fresh.{freshOf}
 use Rattle.engine.specs.configs.Subjects.{hereOf}
 use Rattle.engine.specs.configs.Valid.{configValid}
@@ -102,12 +102,13 @@ stepValues file config command values =
 abbrev pub runIn : List ℕ → List ℕ → List ℕ → List ℕ → Stepped
 runIn file config tape lines = ran (modelIn file) (configFrom config) tape (length lines)
 
--- 8: model not valid; 10: no configuration; then what `run` refuses: 10, not valid for the model, and 6, no room for the lines
+-- 8: model not valid; 10: no configuration, or not valid for the model; 6: no room for the lines
 abbrev pub runRefusals : List ℕ → List ℕ → List ℕ → List ℕ → List (Bool × ℕ)
 runRefusals file config tape lines =
     (not (valid (modelIn file)), 8)
     ∷ (not (isConfig config), 10)
-    ∷ (not (eqb (refusalOf (runIn file config tape lines .answer)) 0), refusalOf (runIn file config tape lines .answer))
+    ∷ (not (configValid (modelIn file) (configFrom config)), 10)
+    ∷ (ltb (length lines / 4) (commands tape), 6)
     ∷ []
 
 abbrev pub runRoom : List ℕ → List ℕ → List ℕ → List ℕ → List ℕ

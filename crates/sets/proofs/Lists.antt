@@ -1,17 +1,17 @@
 -- Laws of lists of anything: those that pass a test, how many, the first, one taken out, blank places behind, and a loop's turn for each.
 use mathlib.Core.Path.{_≡_, refl, sym, ap, ap₂, subst, _∙_}
-use mathlib.Core.Bool.{Bool, true, false, _&&_, not, cond}
+use mathlib.Core.Bool.{Bool, true, false, _&&_, not, cond, or-true}
 use mathlib.Core.List.{List, [], _∷_, _++_, map, append-assoc}
 use Prim.Native.Nat.{ℕ, zero, suc, _+_, _-_, _≤_, _<_, suc-le-suc}
 use native.Mathlib.Nat.{not-suc-le-zero, le-of-suc-le-suc}
 use native.Mathlib.Numerals.{add-one}
 use native.Mathlib.Omega.{arith}
-use borrow.Author.Tests.{ltb-true, ltb-false, not-true}
+use borrow.Author.Tests.{ltb-true, ltb-false, eq-eqb, not-true}
 use lib.Dec.{eqb, ltb, eqb·zero-suc, eqb·suc-zero, eqb·suc-suc}
 use lib.ListN.{length, take, drop, set, getD, replicate, length-append, length-take, length-drop, length-replicate, getD-replicate, drop-of-length-le, List·getD-append}
 use lib.Seq.{take-suc, take-nil, drop-cons, split-at, take-append-seam, getD-append-add, getD-take, length-take-le, set-at, ext-getD}
 use Rattle.sets.specs.Below.{sumBelow, countBelow, tableFrom, table}
-use Rattle.sets.specs.Lists.{allOf, passing, counted, firstFrom, without, padded, folded}
+use Rattle.sets.specs.Lists.{allOf, passing, counted, firstFrom, without, padded, folded, isOneOf}
 use Rattle.sets.specs.declared.Found.the-variants.{At, Nothing}
 use Rattle.sets.proofs.Tests.{and-true, and-both, choose}
 use Rattle.sets.proofs.Below.{no-at, at-is, table-more}
@@ -458,3 +458,15 @@ module _ {A : Type 0} where
   pub without-none : (i : ℕ) → _≡_ {A = List A} (without i []) []
   unfolding without
   without-none i = rw (take-nil {A = A} i)
+
+-- ---- one of these numbers
+
+-- the first of them
+pub one-here : (k : ℕ) (ks : List ℕ) → isOneOf (k ∷ ks) k ≡ true
+unfolding isOneOf
+one-here k ks = rw (eq-eqb k k refl)
+
+-- one of them is one of a longer list
+pub one-more : (k : ℕ) (ks : List ℕ) (n : ℕ) → isOneOf ks n ≡ true → isOneOf (k ∷ ks) n ≡ true
+unfolding isOneOf
+one-more k ks n h = rw (h, or-true (eqb n k))

@@ -1,7 +1,8 @@
 -- Lists of anything: those that pass a test, how many, the first, one taken out, blank places behind.
-use mathlib.Core.Bool.{Bool, true, _&&_, cond}
+use mathlib.Core.Bool.{Bool, true, false, _&&_, _||_, cond}
 use mathlib.Core.List.{List, [], _∷_, _++_}
 use Prim.Native.Nat.{ℕ, suc, _+_, _-_}
+use lib.Dec.{eqb}
 use lib.ListN.{length, take, drop, replicate}
 use Rattle.sets.specs.declared.Found.{Found}
 use Rattle.sets.specs.declared.Found.the-variants.{At, Nothing}
@@ -39,3 +40,8 @@ module _ {A : Type 0} where
   unfoldable pub folded : {B : Type 0} → (B → A → B) → B → List A → B
   folded f b [] = b
   folded f b (x ∷ xs) = folded f (f b x) xs
+
+-- the number is one of these
+unfoldable pub isOneOf : List ℕ → ℕ → Bool
+isOneOf [] number = false
+isOneOf (k ∷ ks) number = eqb number k || isOneOf ks number

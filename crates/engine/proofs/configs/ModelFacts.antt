@@ -13,7 +13,7 @@ use Rattle.sets.proofs.Tests.{Both, and-both, within-is}
 use Rattle.sets.proofs.Below.{all-each}
 use Rattle.sets.proofs.Masks.{none-bits}
 use Rattle.model.specs.Records.{withExits}
-use Rattle.model.specs.Rules.{any, isType, shapeOf, namesFit, stateFits, exitFits, thereOrAny, stateReaches, exitReaches}
+use Rattle.model.specs.Rules.{any, none, isType, shapeOf, namesFit, stateFits, exitFits, thereOrAny, thereOrNone, stateReaches, exitReaches}
 use Rattle.model.specs.Sizes.{mostSubjects, mostStates, statePlaces, mostExits, types}
 use Rattle.model.specs.Valid.{subjectAt, exitAt, exitValid, rowValid, stateOwn, stateValid, subjectOwn, subjectValid, subjectRight, stateRight, startRight, exitsInAll, noMoreExits, valid}
 use Rattle.model.specs.declared.Model.{Model}
@@ -25,8 +25,8 @@ use Rattle.engine.specs.configs.Subjects.{isEnd, stateOf}
 -- a state of a subject with `states` states, in a model of n subjects
 pub record RightState (n states : ℕ) (st : State) : Type 0 where
   pub target : (x : ℕ) → x < st .exits → exitAt st x .target < states
-  pub timeout : (st .timeout ≡ any) ⊎ (st .timeout < states)
-  pub cancel : (st .cancel ≡ any) ⊎ (st .cancel < states)
+  pub timeout : (st .timeout ≡ none) ⊎ (st .timeout < states)
+  pub cancel : (st .cancel ≡ none) ⊎ (st .cancel < states)
   pub receivers : (r : ℕ) → n ≤ r → bit (st .receivers) r ≡ false
   pub send : st .kind ≡ 2 → st .exits ≡ 1
   pub sends : st .kind ≡ 2 → exitAt st 0 .typ < types
@@ -55,12 +55,12 @@ tested m h =
 
 -- ---- a state
 
-there-or : (n x : ℕ) → thereOrAny n x ≡ true → (x ≡ any) ⊎ (x < n)
+there-or : (n x : ℕ) → thereOrNone n x ≡ true → (x ≡ none) ⊎ (x < n)
 there-or n x h = go (ltb x n) refl h
   where
-    go : (b : Bool) → ltb x n ≡ b → (b || eqb x any) ≡ true → (x ≡ any) ⊎ (x < n)
+    go : (b : Bool) → ltb x n ≡ b → (b || eqb x none) ≡ true → (x ≡ none) ⊎ (x < n)
     go true e k = inr (ltb-true x n e)
-    go false e k = inl (eqb-true x any k)
+    go false e k = inl (eqb-true x none k)
 
 -- the exits of each kind
 module _ (st : State) (h : stateFits st ≡ true) where
@@ -69,8 +69,8 @@ module _ (st : State) (h : stateFits st ≡ true) where
   exits-fit =
       let w = within (shapeOf (st .kind) .least) (st .exits) (shapeOf (st .kind) .most) in
       let n = namesFit (shapeOf (st .kind) .filters) (st .sender) (st .typ) in
-      let a = shapeOf (st .kind) .waits || (eqb (st .timeout) any && eqb (st .cancel) any) in
-      let b = same (eqb (st .after) 0) (eqb (st .timeout) any) in
+      let a = shapeOf (st .kind) .waits || (eqb (st .timeout) none && eqb (st .cancel) none) in
+      let b = same (eqb (st .after) 0) (eqb (st .timeout) none) in
       let c = same (eqb (st .receivers) 0) (not (shapeOf (st .kind) .sends)) in
       and-both w n (and-both (w && n) a (and-both (w && n && a) b (and-both (w && n && a && b) c h .left) .left) .left) .left
 
@@ -97,15 +97,15 @@ module _ (st : State) (h : stateFits st ≡ true) where
       exact 1 (rw (a, b, c, e)) (rw (a, b, c, e))
 
 record Reached (n states : ℕ) (st : State) : Type 0 where
-  timeout : (st .timeout ≡ any) ⊎ (st .timeout < states)
-  cancel : (st .cancel ≡ any) ⊎ (st .cancel < states)
+  timeout : (st .timeout ≡ none) ⊎ (st .timeout < states)
+  cancel : (st .cancel ≡ none) ⊎ (st .cancel < states)
   receivers : noneFrom n (st .receivers) ≡ true
 
 reached : (n states : ℕ) (st : State) → stateReaches n states st ≡ true → Reached n states st
 unfolding stateReaches
 reached n states st h =
-    let a = thereOrAny states (st .timeout) in
-    let b = thereOrAny states (st .cancel) in
+    let a = thereOrNone states (st .timeout) in
+    let b = thereOrNone states (st .cancel) in
     let c = thereOrAny n (st .sender) in
     let x = and-both (a && b && c) (noneFrom n (st .receivers)) h in
     let y = and-both (a && b) c (x .left) in

@@ -1,4 +1,4 @@
-use mathlib.Core.Path.{_≡_, refl, sym, ap, _∙_}
+use mathlib.Core.Path.{_≡_, refl, ap, _∙_}
 use mathlib.Core.Bool.{true, not}
 use mathlib.Core.List.{[], _∷_}
 use borrow.Author.Needs.{needs}
@@ -9,7 +9,7 @@ use Rattle.engine.specs.commands.Rules.{firstNumber}
 use Rattle.engine.specs.Tapes.{written}
 use Rattle.exported.specs.Bytes.{configFrom, isConfig}
 use Rattle.exported.specs.Calls.{modelIn, runIn}
-use Rattle.exported.proofs.CallLaws.{first-is, config-room, run-passed, run-first, run-last, run-done, Passed}
+use Rattle.exported.proofs.CallLaws.{first-is, config-room, run-passed, run-first, run-last, run-done}
 use Rattle.exported.proofs.zs_run.Statement.{statement}
 use Rattle.exported.proofs.zs_run.Tie as tie
 
@@ -33,7 +33,9 @@ ran-lines : (c : tie.After-run)
 ran-lines c = rw (c .run .ensures .1, c .before .before .config-from .ensures, c .before .before .before .before .before .before .before .before .before .before .load .ensures)
 
 returns : tie.Need-returns
-returns c = run-first _ _ _ _ _ (first (c .before)) (c .if1 .taken)
+returns c =
+    let a = c .before .before .before .before .before .before .before .before .before .before .args in
+    run-first _ _ (a .tape .now) _ _ (first (c .before)) (c .if1 .taken)
 
 returns-2 : tie.Need-returns-2
 returns-2 c =

@@ -10,7 +10,7 @@ use borrow.Author.Tests.{eq-eqb, ne-eqb}
 use lib.ListN.{length, take, drop, set, getD, length-drop}
 use lib.Seq.{take-add, take-at, drop-at, take-suc, take-append-seam, length-take-le, getD-drop, getD-append-add}
 use Rattle.model.specs.declared.Model.{Model}
-use Rattle.engine.specs.Tapes.{commands, after}
+use Rattle.engine.specs.Tapes.{commands, configAfter}
 use Rattle.controller.specs.Text.{pasted}
 use Rattle.controller.specs.Printed.{printed, servedOf}
 use Rattle.controller.specs.Pieces.{Piece, atOnce, piece, cut, ending, placeIn, pieceIn}
@@ -93,7 +93,7 @@ piece-is m at room room' out out' got held s fits is put kept =
     let n : (at .held + got) / 8 ≡ commands tape = omega (arith, length-take-le (at .held + got) room fits) in
     let text : take (s .length) out' ≡ printed m (at .config) tape (at .next) =
     ap₂ (λ (k : ℕ) (l : List ℕ). take k l) (ap (λ (x : Served). x .length) is) put ∙ take-front out (printed m (at .config) tape (at .next)) in
-    let config : s .config ≡ after m (at .config) tape (commands tape) = ap (λ (x : Served). x .config) is in
+    let config : s .config ≡ configAfter m (at .config) tape (commands tape) = ap (λ (x : Served). x .config) is in
     let rest : take held room' ≡ drop (8 * commands tape) tape = kept ∙ ap (λ (k : ℕ). drop (8 * k) tape) n in
     let next : at .next + (at .held + got) / 8 ≡ at .next + commands tape = ap (λ (k : ℕ). at .next + k) n in
     let here : _≡_ {A = Piece} (pieceIn (record { config = s .config; held = held; next = at .next + (at .held + got) / 8; length = s .length }) room' out') (atOnce m (at .config) tape (at .next)) =

@@ -16,7 +16,7 @@ use Rattle.engine.specs.declared.Config.{Config}
 use Rattle.engine.specs.declared.Stepped.{Stepped}
 use Rattle.engine.specs.commands.Codes.{codeIn, shownIn}
 use Rattle.engine.specs.Steps.{codedStep}
-use Rattle.engine.specs.Tapes.{commands, bytesAt, after, lineAt, ran, written}
+use Rattle.engine.specs.Tapes.{commands, bytesAt, configAfter, lineAt, ran, written}
 use Rattle.controller.specs.Text.{rowText, pasted}
 use Rattle.controller.specs.Printed.{lineText, linesText, printed, rowsText, servedOf}
 use Rattle.controller.specs.declared.Served.{Served}
@@ -136,7 +136,7 @@ module _ (m : Model) (c : Config) (tape old : List ℕ) (v : valid m ≡ true) (
     pub served-is : (r : Stepped) (n : ℕ) → r ≡ ran m c tape (length old) → n ≡ length (rowsText tape numbers first (commands tape))
         → _≡_ {A = Served} (record { config = r .config; length = n }) (servedOf m c tape first)
     served-is r n e h =
-        let p : r .config ≡ after m c tape (commands tape) = ap (λ (x : Stepped). x .config) (e ∙ ran-done m c tape old v g room) in
+        let p : r .config ≡ configAfter m c tape (commands tape) = ap (λ (x : Stepped). x .config) (e ∙ ran-done m c tape old v g room) in
         let q : n ≡ length (printed m c tape first) = h ∙ ap length rows-printed in
         λ i. record { config = p i; length = q i }
 
@@ -157,25 +157,25 @@ module _ (t u : List ℕ) (whole : length t % 8 ≡ 0) where
       ap (λ (k : ℕ). take 8 (drop k (t ++ u))) e ∙ ap (take 8) (drop-append-add t u (8 * j))
 
   module _ (m : Model) (c : Config) where
-    after-first : (i : ℕ) → i ≤ commands t → after m c (t ++ u) i ≡ after m c t i
-    unfolding after
+    after-first : (i : ℕ) → i ≤ commands t → configAfter m c (t ++ u) i ≡ configAfter m c t i
+    unfolding configAfter
     after-first zero h = refl
     after-first (suc i) h = ap₂ (λ (d : Config) (b : List ℕ). codedStep m d b .config) (after-first i (omega arith)) (bytes-first i h)
 
-    after-second : (j : ℕ) → after m c (t ++ u) (commands t + j) ≡ after m (after m c t (commands t)) u j
-    unfolding after
+    after-second : (j : ℕ) → configAfter m c (t ++ u) (commands t + j) ≡ configAfter m (configAfter m c t (commands t)) u j
+    unfolding configAfter
     after-second zero = rw (add-zero (commands t)) (after-first (commands t) (omega arith))
     after-second (suc j) = rw (add-suc (commands t) j) (ap₂ (λ (d : Config) (b : List ℕ). codedStep m d b .config) (after-second j) (bytes-second j))
 
     -- the parts one after the other lead to the same configuration ..
-    pub after-parts : after m c (t ++ u) (commands (t ++ u)) ≡ after m (after m c t (commands t)) u (commands u)
+    pub after-parts : configAfter m c (t ++ u) (commands (t ++ u)) ≡ configAfter m (configAfter m c t (commands t)) u (commands u)
     after-parts = rw commands-parts (after-second (commands u))
 
     line-first : (i : ℕ) → i < commands t → lineAt m c (t ++ u) i ≡ lineAt m c t i
     unfolding lineAt
     line-first i h = rw (after-first i (omega arith), bytes-first i h)
 
-    line-second : (j : ℕ) → lineAt m c (t ++ u) (commands t + j) ≡ lineAt m (after m c t (commands t)) u j
+    line-second : (j : ℕ) → lineAt m c (t ++ u) (commands t + j) ≡ lineAt m (configAfter m c t (commands t)) u j
     unfolding lineAt
     line-second j = rw (after-second j, bytes-second j)
 
@@ -184,7 +184,7 @@ module _ (t u : List ℕ) (whole : length t % 8 ≡ 0) where
     lines-first first zero h = refl
     lines-first first (suc i) h = rw (lines-first first i (omega arith), bytes-first i h, line-first i h)
 
-    lines-second : (first j : ℕ) → linesText m c (t ++ u) first (commands t + j) ≡ printed m c t first ++ linesText m (after m c t (commands t)) u (first + commands t) j
+    lines-second : (first j : ℕ) → linesText m c (t ++ u) first (commands t + j) ≡ printed m c t first ++ linesText m (configAfter m c t (commands t)) u (first + commands t) j
     unfolding linesText
     lines-second first zero =
         ap (linesText m c (t ++ u) first) (add-zero (commands t))
@@ -192,8 +192,8 @@ module _ (t u : List ℕ) (whole : length t % 8 ≡ 0) where
         ∙ sym (append-nil (printed m c t first))
     lines-second first (suc j) =
         rw (add-suc (commands t) j, lines-second first j, bytes-second j, line-second j, ← (add-assoc first (commands t) j))
-        (append-assoc (printed m c t first) (linesText m (after m c t (commands t)) u (first + commands t) j) _)
+        (append-assoc (printed m c t first) (linesText m (configAfter m c t (commands t)) u (first + commands t) j) _)
 
     -- .. and print the same
-    pub printed-parts : (first : ℕ) → printed m c (t ++ u) first ≡ printed m c t first ++ printed m (after m c t (commands t)) u (first + commands t)
+    pub printed-parts : (first : ℕ) → printed m c (t ++ u) first ≡ printed m c t first ++ printed m (configAfter m c t (commands t)) u (first + commands t)
     printed-parts first = ap (linesText m c (t ++ u) first) commands-parts ∙ lines-second first (commands u)

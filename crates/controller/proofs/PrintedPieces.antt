@@ -10,7 +10,7 @@ use lib.ListN.{length, take, drop, length-drop, take-append-drop}
 use lib.Seq.{drop-append-add, length-take-le}
 use Rattle.model.specs.declared.Model.{Model}
 use Rattle.engine.specs.declared.Config.{Config}
-use Rattle.engine.specs.Tapes.{commands, after}
+use Rattle.engine.specs.Tapes.{commands, configAfter}
 use Rattle.controller.specs.Printed.{linesText}
 use Rattle.controller.specs.Pieces.{Place, Piece, start, atOnce, piece, joined, pieces, cut, ending, PrintedPieces}
 use Rattle.controller.proofs.PrintedLaws.{commands-parts, after-parts, printed-parts}
@@ -24,14 +24,14 @@ held-length m c bytes n = omega (arith, length-drop (8 * commands bytes) bytes)
 -- less than a command: nothing is printed, all is held
 short : (m : Model) (c : Config) (bytes : List ℕ) (n : ℕ) → length bytes < 8
     → atOnce m c bytes n ≡ record { text = []; behind = record { config = c; held = bytes; next = n } }
-unfolding atOnce linesText after
+unfolding atOnce linesText configAfter
 short m c bytes n h =
     let none : length bytes / 8 ≡ 0 = omega arith in
     rw (none, add-zero n)
 
 -- whole commands, and what is behind them
 whole : (m : Model) (c : Config) (t u : List ℕ) (n : ℕ) → length t % 8 ≡ 0
-    → atOnce m c (t ++ u) n ≡ joined (atOnce m c t n) (atOnce m (after m c t (commands t)) u (n + commands t))
+    → atOnce m c (t ++ u) n ≡ joined (atOnce m c t n) (atOnce m (configAfter m c t (commands t)) u (n + commands t))
 unfolding atOnce
 whole m c t u n w =
     let place : 8 * commands (t ++ u) ≡ length t + 8 * commands u = omega (arith, commands-parts t u w) in
@@ -55,13 +55,13 @@ module _ (m : Model) (c : Config) (bytes : List ℕ) (n : ℕ) where
   front-length = length-take-le (8 * commands bytes) bytes (omega arith)
 
   abbrev cut-place : Place
-  cut-place = record { config = after m c front (commands front); held = rest; next = n + commands front }
+  cut-place = record { config = configAfter m c front (commands front); held = rest; next = n + commands front }
 
   once-parts : atOnce m c bytes n ≡ record { text = atOnce m c front n .text; behind = cut-place }
   once-parts =
       ap (λ (x : List ℕ). atOnce m c x n) (sym (take-append-drop (8 * commands bytes) bytes))
       ∙ whole m c front rest n (omega (arith, front-length))
-      ∙ ap (joined (atOnce m c front n)) (short m (after m c front (commands front)) rest (n + commands front) (omega (arith, length-drop (8 * commands bytes) bytes)))
+      ∙ ap (joined (atOnce m c front n)) (short m (configAfter m c front (commands front)) rest (n + commands front) (omega (arith, length-drop (8 * commands bytes) bytes)))
       ∙ ap (λ (x : List ℕ). record { text = x; behind = cut-place }) (append-nil (atOnce m c front n .text))
 
   once-more : (more : List ℕ) → atOnce m c (bytes ++ more) n ≡ joined (atOnce m c bytes n) (piece m (atOnce m c bytes n .behind) more)

@@ -18,12 +18,12 @@ use Rattle.engine.specs.declared.Config.{Config}
 use Rattle.engine.proofs.Cited.{fresh-valid}
 use Rattle.engine.specs.commands.Codes.{codeIn, commandIn}
 use Rattle.engine.specs.commands.Rules.{firstNumber, guarded}
-use Rattle.engine.specs.Tapes.{commands, bytesAt, after, lineAt, numberOf, ran, written}
+use Rattle.engine.specs.Tapes.{commands, bytesAt, configAfter, lineAt, numberOf, ran, written}
 use Rattle.engine.proofs.Kept.{coded-keeps}
 
 module _ (m : Model) (c : Config) (tape old : List ℕ) (v : valid m ≡ true) (g : configValid m c ≡ true) (room : 4 * commands tape ≤ length old) where
   -- the answer
-  pub ran-done : ran m c tape (length old) ≡ done (after m c tape (commands tape))
+  pub ran-done : ran m c tape (length old) ≡ done (configAfter m c tape (commands tape))
   unfolding ran guarded
   ran-done = rw (v, g, le-ltb (length old / 4) (commands tape) (omega arith))
 
@@ -53,16 +53,16 @@ none-valid m c v e = go (configValid m c) (rw v at e)
     go false h = absurd (omega arith)
 
 module _ (m : Model) (c : Config) (tape : List ℕ) where
-  after-keeps : Held c → (i : ℕ) → Held (after m c tape i) × (faultOf m (after m c tape i) ≡ faultOf m c)
-  unfolding after
+  after-keeps : Held c → (i : ℕ) → Held (configAfter m c tape i) × (faultOf m (configAfter m c tape i) ≡ faultOf m c)
+  unfolding configAfter
   after-keeps h zero = (h, refl)
   after-keeps h (suc i) =
       let before = after-keeps h i in
-      let step = coded-keeps m (after m c tape i) (codeIn (bytesAt tape i)) (commandIn (bytesAt tape i)) (before .0) in
+      let step = coded-keeps m (configAfter m c tape i) (codeIn (bytesAt tape i)) (commandIn (bytesAt tape i)) (before .0) in
       (step .0, step .1 ∙ before .1)
 
-  pub after-valid : Held c → valid m ≡ true → configValid m c ≡ true → (i : ℕ) → configValid m (after m c tape i) ≡ true
-  after-valid h v g i = none-valid m (after m c tape i) v (after-keeps h i .1 ∙ fault-none m c v g)
+  pub after-valid : Held c → valid m ≡ true → configValid m c ≡ true → (i : ℕ) → configValid m (configAfter m c tape i) ≡ true
+  after-valid h v g i = none-valid m (configAfter m c tape i) v (after-keeps h i .1 ∙ fault-none m c v g)
 
 -- and it is valid at the start
 pub fresh-right : (m : Model) → valid m ≡ true → configValid m (freshOf m .config) ≡ true

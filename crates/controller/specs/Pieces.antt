@@ -7,7 +7,7 @@ use lib.Dec.{eqb}
 use lib.ListN.{length, take, drop}
 use Rattle.model.specs.declared.Model.{Model}
 use Rattle.engine.specs.declared.Config.{Config}
-use Rattle.engine.specs.Tapes.{commands, after}
+use Rattle.engine.specs.Tapes.{commands, configAfter}
 use Rattle.controller.specs.Printed.{printed}
 use Rattle.controller.specs.declared.Serving.{Serving}
 
@@ -31,7 +31,7 @@ unfoldable pub atOnce : Model → Config → List ℕ → ℕ → Piece
 atOnce m c bytes next =
     record {
       text = printed m c bytes next;
-      behind = record { config = after m c bytes (commands bytes); held = drop (8 * commands bytes) bytes; next = next + commands bytes };
+      behind = record { config = configAfter m c bytes (commands bytes); held = drop (8 * commands bytes) bytes; next = next + commands bytes };
     }
 
 -- one piece: the bytes held over, and behind them those that were read

@@ -5,7 +5,7 @@ use lib.ListN.{length, getD}
 use Rattle.model.specs.declared.Model.{Model}
 use Rattle.engine.specs.declared.Config.{Config}
 use Rattle.engine.specs.commands.Codes.{codeIn, shownIn}
-use Rattle.engine.specs.Tapes.{commands, bytesAt, after, lineAt}
+use Rattle.engine.specs.Tapes.{commands, bytesAt, configAfter, lineAt}
 use Rattle.engine.specs.declared.Line.{Line}
 use Rattle.controller.specs.Text.{rowText}
 use Rattle.controller.specs.declared.Served.{Served}
@@ -40,4 +40,4 @@ rowsText tape numbers first (suc i) =
 
 -- the configuration behind the tape, and how long the text is
 abbrev pub servedOf : Model → Config → List ℕ → ℕ → Served
-servedOf m c tape first = record { config = after m c tape (commands tape); length = length (printed m c tape first) }
+servedOf m c tape first = record { config = configAfter m c tape (commands tape); length = length (printed m c tape first) }

@@ -27,7 +27,7 @@ use Rattle.engine.specs.commands.Codes.{commandIn}
 use Rattle.engine.specs.commands.Exact.{rulesOf, codedRules}
 use Rattle.engine.specs.commands.Rules.{guarded}
 use Rattle.engine.specs.Steps.{stepped, codedStep}
-use Rattle.engine.specs.Tapes.{commands, after, runRules, ran}
+use Rattle.engine.specs.Tapes.{commands, configAfter, runRules, ran}
 use Rattle.engine.specs.declared.Command.{Command}
 use Rattle.engine.proofs.RuleLaws.{guarded-refusal, first-refuses, number-in, refusal-number, own-numbers}
 use Rattle.engine.proofs.TapeLaws.{refused-unwritten}
@@ -108,7 +108,7 @@ coded-answers m c b =
 -- 8, 10 or 6, and the configuration that went in
 run-answers : (m : Model) (c : Config) (tape : List ℕ) (room : ℕ) → Answers (8 ∷ 10 ∷ 6 ∷ []) c (ran m c tape room)
 unfolding ran isOneOf allOf
-run-answers m c tape room = answers-by (8 ∷ 10 ∷ 6 ∷ []) c (runRules m c tape room) (done (after m c tape (commands tape))) refl refl
+run-answers m c tape room = answers-by (8 ∷ 10 ∷ 6 ∷ []) c (runRules m c tape room) (done (configAfter m c tape (commands tape))) refl refl
 
 -- every call answers, for every input
 pub every-call-answers : EveryCallAnswers

@@ -30,7 +30,7 @@ use Rattle.engine.specs.declared.Config.{Config}
 use Rattle.engine.specs.commands.Codes.{names, subjectOf}
 use Rattle.engine.specs.commands.Reserve.{isClosed}
 use Rattle.engine.specs.Steps.{stepped}
-use Rattle.engine.specs.Tapes.{after}
+use Rattle.engine.specs.Tapes.{configAfter}
 use Rattle.engine.specs.declared.Command.{Command}
 use Rattle.engine.specs.declared.Command.the-variants.{Reserve}
 use Rattle.engine_promises.specs.Runs.{runFrom, commandsOf, Call, afterCalls}
@@ -87,7 +87,7 @@ atLast m ks = runFrom m (freshOf m .config) ks
 
 -- after any calls from a fresh start, and then the first i commands of a tape
 abbrev pub onTape : Model → List Call → List ℕ → ℕ → Config
-onTape m calls tape i = after m (afterCalls m (freshOf m .config) calls) tape i
+onTape m calls tape i = configAfter m (afterCalls m (freshOf m .config) calls) tape i
 
 -- no sender holds more than its limit in c
 abbrev pub LimitsKept : Model → ℕ → Config → Type 0
@@ -166,4 +166,4 @@ NeverCrowdedOut = (m : Model) (owner healthy probe : ℕ) (ks chatter : List Com
 abbrev pub NeverCrowdedOutOnTapes : Type 0
 NeverCrowdedOutOnTapes = (m : Model) (owner healthy probe : ℕ) (calls : List Call) (tape : List ℕ) (i : ℕ) (chatter : List ℕ) (j : ℕ)
     → isYes (shareOf mostEntries m owner) ≡ true → probe ≢ healthy → probe ≢ owner → allOf (ofProbe probe) (commandsOf chatter j) ≡ true
-    → AsksAndGets m owner healthy (onTape m calls tape i) (after m (onTape m calls tape i) chatter j)
+    → AsksAndGets m owner healthy (onTape m calls tape i) (configAfter m (onTape m calls tape i) chatter j)

@@ -49,8 +49,8 @@ fits-itself : (t : ℕ) → fits t t ≡ true
 fits-itself t = rw (eq-eqb t t refl, or-true (eqb t any))
 
 -- the configuration after the step; the pool and the mask of subject r in it
-abbrev after : Model → Config → ℕ → Config
-after m c s = reserving (m .subjects) (hereOf m c s) c s .config
+abbrev reserved : Model → Config → ℕ → Config
+reserved m c s = reserving (m .subjects) (hereOf m c s) c s .config
 
 abbrev gives : Model → Config → ℕ → ℕ → Bool
 gives m c s r = answers (m .subjects) (hereOf m c s) c s Placed r
@@ -86,7 +86,7 @@ module _ (m : Model) (c : Config) (s : ℕ) where
     right : RightState (m .n) (subjectAt m s .states) (hereOf m c s)
     right = state-right m v s l (at c s .state) (fields-read (subjectAt m s) (hereOf m c s) (at c s) (g .subject s l .fields) .state)
 
-    is : (r : ℕ) → r < mostSubjects → at (after m c s) r ≡ withMask (maskAfter m c s r) (withPool (poolAfter m c s r) (at c r))
+    is : (r : ℕ) → r < mostSubjects → at (reserved m c s) r ≡ withMask (maskAfter m c s r) (withPool (poolAfter m c s r) (at c r))
     is r j = reserving-at (m .subjects) (hereOf m c s) c s (k .subjects) (omega (arith, few)) r j
 
     -- ---- the mask of the sender
@@ -200,12 +200,12 @@ module _ (m : Model) (c : Config) (s : ℕ) where
     -- ---- all of it
 
     -- the state of a subject does not change
-    here-kept : (q : ℕ) → q < mostSubjects → hereOf m (after m c s) q ≡ hereOf m c q
+    here-kept : (q : ℕ) → q < mostSubjects → hereOf m (reserved m c s) q ≡ hereOf m c q
     here-kept q j = ap (λ (x : Subject). stateOf m q (x .state)) (is q j)
 
     counted-right : (r q t : ℕ) → r < m .n → q < m .n → (q ≡ s → fits t (typeOf (hereOf m c s)) ≡ true)
         → reservations q t (held (at c r .pool)) ≡ cond (bit (at c q .mask) r) 1 0
-        → reservations q t (held (at (after m c s) r .pool)) ≡ cond (bit (at (after m c s) q .mask) r) 1 0
+        → reservations q t (held (at (reserved m c s) r .pool)) ≡ cond (bit (at (reserved m c s) q .mask) r) 1 0
     counted-right r q t j i f h =
         rw (is r (omega (arith, few)), is q (omega (arith, few))) (go (eqb q s) refl)
       where
@@ -231,12 +231,12 @@ module _ (m : Model) (c : Config) (s : ℕ) where
         }
 
     -- who is not there is no receiver
-    absent-kept : (r : ℕ) → m .n ≤ r → r < mostSubjects → at (after m c s) r ≡ nobody
+    absent-kept : (r : ℕ) → m .n ≤ r → r < mostSubjects → at (reserved m c s) r ≡ nobody
     absent-kept r i j =
         let none : gives m c s r ≡ false = is-false (gives m c s r) (λ e. not-both (giver r e .receiver) (right .receivers r i)) in
         is r j ∙ rw (none, ne-eqb r s (λ e. absurd (omega arith))) (g .absent r i j)
 
-    good-after : GoodConfig m (after m c s)
+    good-after : GoodConfig m (reserved m c s)
     good-after =
         record {
           subject = λ r j. subst (GoodSubject m r) (sym (is r (omega (arith, few)))) (subject-kept r j);
@@ -244,15 +244,15 @@ module _ (m : Model) (c : Config) (s : ℕ) where
           one = λ r q j i. counted-right r q any j i (λ _. refl) (g .one r q j i);
           typed = λ r q j i.
               subst
-              (λ (st : State). reservations q (typeOf st) (held (at (after m c s) r .pool)) ≡ cond (bit (at (after m c s) q .mask) r) 1 0)
+              (λ (st : State). reservations q (typeOf st) (held (at (reserved m c s) r .pool)) ≡ cond (bit (at (reserved m c s) q .mask) r) 1 0)
               (sym (here-kept q (omega (arith, few))))
               (counted-right r q (typeOf (hereOf m c q)) j i (λ e. rw e (fits-itself (typeOf (hereOf m c s)))) (g .typed r q j i));
         }
 
-    held-after : Held (after m c s)
+    held-after : Held (reserved m c s)
     held-after =
         held-by
-        (after m c s)
+        (reserved m c s)
         (size-reserving (m .subjects) (hereOf m c s) c s (k .subjects))
         (λ r j. subst HeldSubject (sym (is r j)) (record { marks = k .marks r j; entries = pool-long r j; mask = mask-fits r j }))
 

@@ -92,7 +92,7 @@ pub enum Command {
 }
 
 // What a receiver answers to one who wants a place.
-pub(crate) enum Reply {
+pub enum Reply {
     Placed,
     Improper,
     Closed,
@@ -122,7 +122,7 @@ pub(crate) struct Coded {
 }
 
 // What is written of a command.
-pub(crate) struct Line {
+pub struct Line {
     pub refusal: u8,
     pub state: u8,
     pub word: u32,

@@ -15,7 +15,7 @@ use Rattle.engine.proofs.Cited.{fresh-held, fresh-valid}
 use Rattle.engine.specs.commands.Codes.{commandIn}
 use Rattle.engine.specs.commands.Exact.{rulesOf, codedRules}
 use Rattle.engine.specs.Steps.{acted, stepped, codedStep}
-use Rattle.engine.specs.Tapes.{after}
+use Rattle.engine.specs.Tapes.{configAfter}
 use Rattle.engine.specs.declared.Command.{Command}
 use Rattle.engine.proofs.Kept.{kept}
 use Rattle.engine.proofs.RuleLaws.{guarded-keeps}
@@ -79,8 +79,8 @@ module _ (m : Model) (v : valid m ≡ true) where
   always-held ks = run-sane m v (freshConfig m) ks (fresh-sane m v) .held
 
   -- after the first i commands of any tape
-  pub always-valid-coded : (tape : List ℕ) (i : ℕ) → configValid m (after m (freshConfig m) tape i) ≡ true
+  pub always-valid-coded : (tape : List ℕ) (i : ℕ) → configValid m (configAfter m (freshConfig m) tape i) ≡ true
   always-valid-coded tape i = rw (tapes-are-runs .tape m (freshConfig m) tape i) (always-valid (commandsOf tape i))
 
-  pub always-held-coded : (tape : List ℕ) (i : ℕ) → Held (after m (freshConfig m) tape i)
+  pub always-held-coded : (tape : List ℕ) (i : ℕ) → Held (configAfter m (freshConfig m) tape i)
   always-held-coded tape i = rw (tapes-are-runs .tape m (freshConfig m) tape i) (always-held (commandsOf tape i))

@@ -15,7 +15,7 @@ use Rattle.engine.specs.declared.Stepped.{Stepped}
 use Rattle.engine.specs.commands.Codes.{isCode, codeIn, commandIn}
 use Rattle.engine.specs.commands.Rules.{guarded}
 use Rattle.engine.specs.Steps.{stepped, codedAs, codedStep}
-use Rattle.engine.specs.Tapes.{commands, bytesAt, after, ran}
+use Rattle.engine.specs.Tapes.{commands, bytesAt, configAfter, ran}
 use Rattle.engine.specs.declared.Command.{Command}
 use Rattle.engine_promises.specs.Runs.{runFrom, commandsIn, commandsOf, Call, step, stepCoded, run, leadsTo, afterCalls, TapesAreRuns}
 
@@ -45,8 +45,8 @@ module _ (m : Model) (c : Config) (b : List ℕ) where
       go false e = coded-wrong e
 
 module _ (m : Model) (c : Config) (tape : List ℕ) where
-  tape-run : (i : ℕ) → after m c tape i ≡ runFrom m c (commandsOf tape i)
-  unfolding after commandsOf runFrom
+  tape-run : (i : ℕ) → configAfter m c tape i ≡ runFrom m c (commandsOf tape i)
+  unfolding configAfter commandsOf runFrom
   tape-run zero = refl
   tape-run (suc i) =
       ap (λ (d : Config). codedStep m d (bytesAt tape i) .config) (tape-run i)
@@ -54,7 +54,7 @@ module _ (m : Model) (c : Config) (tape : List ℕ) where
       ∙ sym (run-append m c (commandsOf tape i) (commandsIn (bytesAt tape i)))
 
   -- a refused `run` leads nowhere, an accepted one to the end of the tape
-  run-leads : (P : Stepped → Type 0) (room : ℕ) → ((number : ℕ) → P (refused c (suc number))) → P (done (after m c tape (commands tape))) → P (ran m c tape room)
+  run-leads : (P : Stepped → Type 0) (room : ℕ) → ((number : ℕ) → P (refused c (suc number))) → P (done (configAfter m c tape (commands tape))) → P (ran m c tape room)
   unfolding ran guarded
   run-leads P room none all =
       choose P (not (valid m)) (λ _. none 7)

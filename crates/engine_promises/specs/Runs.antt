@@ -8,7 +8,7 @@ use Rattle.engine.specs.configs.Answers.{refusalOf}
 use Rattle.engine.specs.declared.Config.{Config}
 use Rattle.engine.specs.commands.Codes.{isCode, codeIn, commandIn}
 use Rattle.engine.specs.Steps.{stepped, codedStep}
-use Rattle.engine.specs.Tapes.{commands, bytesAt, after, ran}
+use Rattle.engine.specs.Tapes.{commands, bytesAt, configAfter, ran}
 use Rattle.engine.specs.declared.Command.{Command}
 
 -- the configuration after a list of commands
@@ -46,7 +46,7 @@ afterCalls m c (call ∷ rest) = afterCalls m (leadsTo m c call) rest
 -- and an accepted run they are the commands that it codes
 pub record TapesAreRuns : Type 0 where
   pub coded : (m : Model) (c : Config) (b : List ℕ) → codedStep m c b .config ≡ runFrom m c (commandsIn b)
-  pub tape : (m : Model) (c : Config) (tape : List ℕ) (i : ℕ) → after m c tape i ≡ runFrom m c (commandsOf tape i)
+  pub tape : (m : Model) (c : Config) (tape : List ℕ) (i : ℕ) → configAfter m c tape i ≡ runFrom m c (commandsOf tape i)
   pub whole : (m : Model) (c : Config) (tape : List ℕ) (room : ℕ) → refusalOf (ran m c tape room .answer) ≡ 0
       → ran m c tape room .config ≡ runFrom m c (commandsOf tape (commands tape))
   pub calls : (m : Model) (c : Config) (calls : List Call) → (ks : List Command) × (afterCalls m c calls ≡ runFrom m c ks)

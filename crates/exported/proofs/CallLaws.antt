@@ -29,7 +29,7 @@ use Rattle.engine.specs.declared.Command.{Command}
 use Rattle.engine.specs.declared.Subject.{Subject}
 use Rattle.model.specs.declared.State.{State}
 use Rattle.engine.specs.Steps.{codedStep}
-use Rattle.engine.specs.Tapes.{commands, after, written}
+use Rattle.engine.specs.Tapes.{commands, configAfter, written}
 use Rattle.engine.proofs.RuleLaws.{guarded-refusal, number-above, rules-ascend}
 use Rattle.engine.proofs.TapeLaws.{ran-refusal, refused-unwritten}
 use Rattle.engine_promises.proofs.Refusals.{effectOf, effect-fine, coded-is}
@@ -374,8 +374,8 @@ module _ (file config tape : List ℕ) (n1 : ℕ)
         let e = left ∙ number-here _ 10 [] (ap not h) in
         (sym e, buffer-kept _ 10 config _ e (λ z. absurd (omega (arith, z))))
 
-    pub walk-done : ok ≡ true → (x : Config) (c : List ℕ) → x ≡ after (modelIn file) (configFrom config) tape (commands tape) → c ≡ stored config 0 (configBytes x) → WalkGives 0 c
+    pub walk-done : ok ≡ true → (x : Config) (c : List ℕ) → x ≡ configAfter (modelIn file) (configFrom config) tape (commands tape) → c ≡ stored config 0 (configBytes x) → WalkGives 0 c
     walk-done h x c k p =
         let e = left ∙ number-after _ 10 [] (ap not h) ∙ number-none in
-        let r = after (modelIn file) (configFrom config) tape (commands tape) in
+        let r = configAfter (modelIn file) (configFrom config) tape (commands tape) in
         (sym e, buffer-onto _ config (configBytes r) c e (omega (arith, length-config r, config-room config (walk-passed none .config))) (stored-same config c _ _ 0 p (ap configBytes k)))

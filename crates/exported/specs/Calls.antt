@@ -23,7 +23,7 @@ use Rattle.engine.specs.declared.Stepped.{Stepped}
 use Rattle.engine.specs.commands.Codes.{subjectOf, isCode, codeIn, commandIn}
 use Rattle.engine.specs.commands.Rules.{rules, firstNumber}
 use Rattle.engine.specs.Steps.{codedStep}
-use Rattle.engine.specs.Tapes.{commands, after, ran, written}
+use Rattle.engine.specs.Tapes.{commands, configAfter, ran, written}
 use Rattle.exported.specs.Bytes.{shortBytes, onto, configSize, configBytes, configFrom, isConfig, modelSize, modelBytes}
 
 -- a buffer after a call: as it was where a refusal holds
@@ -129,7 +129,7 @@ walkRefusals file config =
 -- a step that is refused changes nothing, and the walk goes on with the next command
 abbrev pub walkRoom : List ℕ → List ℕ → List ℕ → List ℕ
 walkRoom file config tape =
-    unlessRefused (walkRefusals file config) config (onto (configBytes (after (modelIn file) (configFrom config) tape (commands tape))) config)
+    unlessRefused (walkRefusals file config) config (onto (configBytes (configAfter (modelIn file) (configFrom config) tape (commands tape))) config)
 
 -- ---- the yes/no for a pool
 

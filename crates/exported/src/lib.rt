@@ -7,7 +7,7 @@ ghost use lib.Dec.{eqb};
 ghost use Rattle.engine.specs.pools.Sizes.{mostEntries};
 ghost use Rattle.engine.specs.configs.Shares.{shareOf};
 ghost use Rattle.engine.specs.commands.Rules.{firstNumber};
-ghost use Rattle.engine.specs.Tapes.{commands, after};
+ghost use Rattle.engine.specs.Tapes.{commands, configAfter};
 ghost use Rattle.exported.specs.Calls.{modelIn, loadRefusals, loadRoom, freshRefusals, freshRoom, stepRefusals, stepRoom, stepValues, runRefusals, runRoom, runLines, walkRefusals, walkRoom, shareNumber};
 
 mod config_bytes;
@@ -151,7 +151,7 @@ pub extern "C" fn zs_run(file: &[u8], config: &mut [u8], tape: &[u8], lines: &mu
 
 // The configuration after the commands of a tape, a step for each. A step that is refused changes nothing.
 fn walk(m: Model, c: Config, tape: &[u8]) -> Config
-    ensures { λ r. ⌜ r ≡ after m c (now (tape .entry)) (commands (now (tape .entry))) ⌝ }
+    ensures { λ r. ⌜ r ≡ configAfter m c (now (tape .entry)) (commands (now (tape .entry))) ⌝ }
 {
     let n = tape.len() / 8;
     let mut latest = c;

@@ -31,12 +31,12 @@ emptyModel =
     }
 
 -- a file is refused: the empty model, and why
-abbrev pub refused : Verdict → Loaded
-refused why = record { model = emptyModel; verdict = why }
+abbrev pub notLoaded : Verdict → Loaded
+notLoaded why = record { model = emptyModel; verdict = why }
 
 -- the first block that fails a test refuses the file; where none does, what comes next decides
 abbrev pub unlessAt : Found → (ℕ → Verdict) → Loaded → Loaded
-unlessAt (At b) why next = refused (why b)
+unlessAt (At b) why next = notLoaded (why b)
 unlessAt Nothing why next = next
 
 -- any rule across records
@@ -45,7 +45,7 @@ acrossRight file = inPlace file && valid (modelOf file)
 
 -- 5, or the model
 unfoldable pub acrossOr : List ℕ → Loaded
-acrossOr file = cond (acrossRight file) (record { model = modelOf file; verdict = Good }) (refused Across)
+acrossOr file = cond (acrossRight file) (record { model = modelOf file; verdict = Good }) (notLoaded Across)
 
 unfoldable pub loaded : List ℕ → Loaded
 loaded file =
@@ -54,4 +54,4 @@ loaded file =
     (unlessAt (firstNot (blockRight file) (blocks file)) Block
     (unlessAt (firstNot (recordsRight file) (blocks file)) Record
     (acrossOr file))))
-    (refused Length)
+    (notLoaded Length)

@@ -1,6 +1,6 @@
 // Loading: the first refusal that holds, stage by stage over the whole file; else the model.
 ghost use mathlib.Core.Path.{_≡_};
-ghost use Rattle.model.specs.Loading.{emptyModel, refused, acrossOr, loaded};
+ghost use Rattle.model.specs.Loading.{emptyModel, notLoaded, acrossOr, loaded};
 use super::Loaded;
 use super::Model;
 use super::decoded;
@@ -31,8 +31,8 @@ fn empty_model() -> Model
 }
 
 // A file is refused: the empty model, and why.
-fn refused(why: Verdict) -> Loaded
-    ensures { λ r. ⌜ r ≡ refused why ⌝ }
+fn not_loaded(why: Verdict) -> Loaded
+    ensures { λ r. ⌜ r ≡ notLoaded why ⌝ }
 {
     Loaded {
         model: empty_model(),
@@ -46,10 +46,10 @@ fn across_or(file: &[u8]) -> Loaded
 {
     let model = decoded::model(file);
     if !decoded::in_place(file, model) {
-        return refused(Verdict::Across);
+        return not_loaded(Verdict::Across);
     }
     if !valid::is_valid(model) {
-        return refused(Verdict::Across);
+        return not_loaded(Verdict::Across);
     }
     Loaded {
         model,
@@ -62,19 +62,19 @@ pub fn load(file: &[u8]) -> Loaded
     ensures { λ r. ⌜ r ≡ loaded (now (file .entry)) ⌝ }
 {
     if !stages::length_right(file) {
-        return refused(Verdict::Length);
+        return not_loaded(Verdict::Length);
     }
     let check = stages::first_bad_check(file);
     if let Found::At(b) = check {
-        return refused(Verdict::Check(b));
+        return not_loaded(Verdict::Check(b));
     }
     let block = stages::first_bad_block(file);
     if let Found::At(b) = block {
-        return refused(Verdict::Block(b));
+        return not_loaded(Verdict::Block(b));
     }
     let record = stages::first_bad_record(file);
     if let Found::At(b) = record {
-        return refused(Verdict::Record(b));
+        return not_loaded(Verdict::Record(b));
     }
     across_or(file)
 }

@@ -18,7 +18,7 @@ use Rattle.blocks.proofs.BlockLaws.{record-from-bytes}
 use Rattle.blocks.specs.Blocks.{blocks, blockOf, checkRight, firstBlock}
 use Rattle.model.specs.Decoded.{subjectsIn, rowsFrom, subjectIn, statesIn, hasState, storedIn, exitBytes, modelOf, inPlace}
 use Rattle.model.specs.Records.{blankStored, storedOf}
-use Rattle.model.specs.Loading.{loaded, acrossRight, acrossOr, refused, unlessAt, emptyModel}
+use Rattle.model.specs.Loading.{loaded, acrossRight, acrossOr, notLoaded, unlessAt, emptyModel}
 use Rattle.model.specs.Stages.{lengthRight, blockRight, recordsRight}
 use Rattle.model.specs.File.{fileOf, recordsOf}
 use Rattle.model.specs.Valid.{noSubject, valid, Held}
@@ -46,8 +46,8 @@ unfolding loaded acrossOr
 means file = one (lengthRight file) refl
   where
     last : Passes1 file → Passes2 file → Passes3 file → Passes4 file → (x : Bool) → acrossRight file ≡ x → Means file (acrossOr file .verdict)
-    last p1 p2 p3 p4 true e = subst (λ (x : Bool). Means file (cond x (record { model = modelOf file; verdict = Good }) (refused Across) .verdict)) (sym e) (all-right p1 p2 p3 p4 e)
-    last p1 p2 p3 p4 false e = subst (λ (x : Bool). Means file (cond x (record { model = modelOf file; verdict = Good }) (refused Across) .verdict)) (sym e) (wrong-across p1 p2 p3 p4 e)
+    last p1 p2 p3 p4 true e = subst (λ (x : Bool). Means file (cond x (record { model = modelOf file; verdict = Good }) (notLoaded Across) .verdict)) (sym e) (all-right p1 p2 p3 p4 e)
+    last p1 p2 p3 p4 false e = subst (λ (x : Bool). Means file (cond x (record { model = modelOf file; verdict = Good }) (notLoaded Across) .verdict)) (sym e) (wrong-across p1 p2 p3 p4 e)
 
     four : Passes1 file → Passes2 file → Passes3 file → (x : Found) → firstNot (recordsRight file) (blocks file) ≡ x → Means file (unlessAt x Record (acrossOr file) .verdict)
     four p1 p2 p3 (At b) e = wrong-record p1 p2 p3 (first-wrong (recordsRight file) file b e)

@@ -3,24 +3,24 @@ use Prim.Native.Nat.{_*_, _-_, _≤_}
 use native.Mathlib.Numerals.{add-one}
 use native.Mathlib.Omega.{arith}
 use borrow.Author.Needs.{needs}
-use Rattle.engine.specs.Tapes.{commands, bytesAt, after}
+use Rattle.engine.specs.Tapes.{commands, bytesAt, configAfter}
 use Rattle.exported.specs.Calls.{eightOf}
 use Rattle.exported.proofs.ByteLaws.{eight-rest}
 use Rattle.exported.proofs.walk.Statement.{statement}
 use Rattle.exported.proofs.walk.Tie as tie
 
 abbrev Inv-loop : tie.InvT-loop
-Inv-loop m tape n latest₀ i₀ latest i = (i ≤ n) × (latest ≡ after m latest₀ tape i)
+Inv-loop m tape n latest₀ i₀ latest i = (i ≤ n) × (latest ≡ configAfter m latest₀ tape i)
 
 abbrev μ-loop : tie.MeasureT-loop
 μ-loop m tape n latest₀ i₀ latest i = n - i
 
 loop-holds : tie.Need-loop-holds Inv-loop μ-loop
-unfolding after
+unfolding configAfter
 loop-holds c = search needs
 
 loop-again : tie.Need-loop-again Inv-loop μ-loop
-unfolding after
+unfolding configAfter
 loop-again c =
     let step = c .before in
     let test = step .before .before .before in

@@ -9,7 +9,7 @@ returns : tie.Need-returns
 unfolding acrossOr
 returns c =
     let place = sym (c .before .before .in-place .ensures) ∙ not-true _ (c .before .if1 .taken) in
-    rw place (c .refused .ensures)
+    rw place (c .not-loaded .ensures)
 
 returns-2 : tie.Need-returns-2
 unfolding acrossOr
@@ -17,7 +17,7 @@ returns-2 c =
     let at = c .before .before .before in
     let place = sym (at .before .in-place .ensures) ∙ not-false _ (at .if1 .left) in
     let valid = sym (c .before .before .is-valid .ensures) ∙ not-true _ (c .before .if2 .taken) in
-    rw (place, ← (at .before .before .model .ensures), valid) (c .refused2 .ensures)
+    rw (place, ← (at .before .before .model .ensures), valid) (c .not-loaded2 .ensures)
 
 returns-3 : tie.Need-returns-3
 unfolding acrossOr

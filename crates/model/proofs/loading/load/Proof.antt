@@ -9,14 +9,14 @@ returns : tie.Need-returns
 unfolding loaded
 returns c =
     let length = sym (c .before .before .length-right .ensures) ∙ not-true _ (c .before .if1 .taken) in
-    rw length (c .refused .ensures)
+    rw length (c .not-loaded .ensures)
 
 returns-2 : tie.Need-returns-2
 unfolding loaded
 returns-2 c =
     let length = sym (c .before .before .before .before .before .before .length-right .ensures) ∙ not-false _ (c .before .before .before .before .before .if1 .left) in
     let found = sym (c .before .before .before .before .first-bad-check .ensures) ∙ c .before .before .check .given .1 in
-    rw (length, found) (c .refused2 .ensures)
+    rw (length, found) (c .not-loaded2 .ensures)
 
 returns-3 : tie.Need-returns-3
 unfolding loaded
@@ -24,7 +24,7 @@ returns-3 c =
     let length = sym (c .before .before .before .before .before .before .before .before .before .length-right .ensures) ∙ not-false _ (c .before .before .before .before .before .before .before .before .if1 .left) in
     let checks = sym (c .before .before .before .before .before .before .before .first-bad-check .ensures) ∙ c .before .before .before .before .before .enum-told .given .1 in
     let found = sym (c .before .before .before .before .first-bad-block .ensures) ∙ c .before .before .block .given .1 in
-    rw (length, checks, found) (c .refused3 .ensures)
+    rw (length, checks, found) (c .not-loaded3 .ensures)
 
 returns-4 : tie.Need-returns-4
 unfolding loaded
@@ -33,7 +33,7 @@ returns-4 c =
     let checks = sym (c .before .before .before .before .before .before .before .before .before .before .first-bad-check .ensures) ∙ c .before .before .before .before .before .before .before .before .enum-told .given .1 in
     let blocks = sym (c .before .before .before .before .before .before .before .first-bad-block .ensures) ∙ c .before .before .before .before .before .enum-told2 .given .1 in
     let found = sym (c .before .before .before .before .first-bad-record .ensures) ∙ c .before .before .«record» .given .1 in
-    rw (length, checks, blocks, found) (c .refused4 .ensures)
+    rw (length, checks, blocks, found) (c .not-loaded4 .ensures)
 
 returns-5 : tie.Need-returns-5
 unfolding loaded

@@ -89,7 +89,7 @@ unfolding
     reserve.isClosed reserve.replyOf reserve.withPlace reserve.noted reserve.turnAs reserve.turnOf reserve.rounds reserve.answered reserve.reserving
     rules.noMessage rules.placeMissing rules.someImproper rules.canDeliver rules.guarded
     steps.effect steps.acts steps.acted steps.stepped steps.codedAs
-    tapes.after tapes.lineAt tapes.ran
+    tapes.configAfter tapes.lineAt tapes.ran
     promised.runFrom promised.commandsIn promised.commandsOf actedFrom
     orchards.orchard
     shares.holds shares.limitOf

@@ -114,6 +114,14 @@ pub(crate) struct Reached {
     pub places: Places,
 }
 
+// What is decided of a command before anything changes: its refusal, where it leads, how many wait one more, whom it reaches.
+pub(crate) struct Plan {
+    pub number: u8,
+    pub target: u8,
+    pub waiters: usize,
+    pub reached: u16,
+}
+
 // A command as it stood on the tape: its code, the subject that its line shows, and the command.
 pub(crate) struct Coded {
     pub code: u8,

@@ -46,7 +46,7 @@ pub(crate) fn shown_of(code: u8, subject: u8) -> u8
 }
 
 // The command in eight bytes.
-pub(crate) fn coded(b: [u8; 8]) -> Coded
+fn coded(b: [u8; 8]) -> Coded
     ensures { λ r. ⌜ r ≡ codedIn b ⌝ }
 {
     let word = word_of(b[4], b[5], b[6], b[7]);
@@ -58,7 +58,7 @@ pub(crate) fn coded(b: [u8; 8]) -> Coded
 }
 
 // The eight bytes from place p on.
-pub(crate) fn bytes_at(tape: &[u8], p: usize) -> [u8; 8]
+fn bytes_at(tape: &[u8], p: usize) -> [u8; 8]
     requires { ⌜ p + 8 ≤ length (now tape) ⌝ }
     ensures { λ r. ⌜ r ≡ take 8 (drop p (now (tape .entry))) ⌝ }
 {
@@ -72,6 +72,14 @@ pub(crate) fn bytes_at(tape: &[u8], p: usize) -> [u8; 8]
         tape[p + 6],
         tape[p + 7],
     ]
+}
+
+// Command i of a tape.
+pub(crate) fn command_at(tape: &[u8], i: usize) -> Coded
+    requires { ⌜ 8 * i + 8 ≤ length (now tape) ⌝ }
+    ensures { λ r. ⌜ r ≡ codedIn (take 8 (drop (8 * i) (now (tape .entry)))) ⌝ }
+{
+    coded(bytes_at(tape, 8 * i))
 }
 
 // A command in eight bytes: fields that it lacks are 0.

@@ -5,7 +5,7 @@ ghost use Rattle.model.specs.Sizes.{mostSubjects};
 ghost use Rattle.engine.specs.pools.Sizes.{mostEntries};
 ghost use Rattle.engine.specs.pools.Pools.{Well};
 ghost use Rattle.engine.specs.commands.Turns.{targetOf};
-ghost use Rattle.engine.specs.inner.Spine.{reached, reachedAs, hasOwn, ownAs, answerTo};
+ghost use Rattle.engine.specs.inner.Spine.{reached, planned, reachedAs, hasOwn, ownAs, answerTo};
 use super::deliver;
 use super::doing;
 use super::leave;
@@ -13,15 +13,17 @@ use super::reserve;
 use super::rules;
 use super::runs;
 use super::take;
+use super::tick;
 use crate::Answer;
 use crate::Command;
 use crate::Places;
+use crate::Plan;
 use crate::Reached;
 use crate::Subject;
 use model::State;
 
 // Where the command leads a subject from here; Reserve and Tick lead nowhere.
-pub(crate) fn target_of(here: State, x: Subject, k: Command) -> u8
+fn target_of(here: State, x: Subject, k: Command) -> u8
     ensures { λ r. ⌜ r ≡ targetOf here x k ⌝ }
 {
     match k {
@@ -40,7 +42,7 @@ pub(crate) fn target_of(here: State, x: Subject, k: Command) -> u8
 }
 
 // The subjects that an accepted command reaches: those asked for a place, those delivered to, those withdrawn from.
-pub(crate) fn reached(number: u8, here: State, mask: u16, k: Command) -> u16
+fn reached(number: u8, here: State, mask: u16, k: Command) -> u16
     ensures { λ r. ⌜ r ≡ reached number here mask k ⌝ }
 {
     if number != 0 {
@@ -51,6 +53,19 @@ pub(crate) fn reached(number: u8, here: State, mask: u16, k: Command) -> u16
         Command::Deliver { subject: _ } => here.receivers,
         Command::Expire { subject: _ } | Command::Cancel { subject: _ } => mask,
         _ => 0,
+    }
+}
+
+// What is decided of a command with a code, by what its rules read.
+pub(crate) fn plan(code: u8, n: u8, here: State, x: Subject, improper: bool, k: Command) -> Plan
+    ensures { λ r. ⌜ r ≡ planned code n here x improper k ⌝ }
+{
+    let number = rules::number_for(code, n, here, x, improper, k);
+    Plan {
+        number: number,
+        target: target_of(here, x, k),
+        waiters: tick::waiters(number, n, k),
+        reached: reached(number, here, x.mask, k),
     }
 }
 

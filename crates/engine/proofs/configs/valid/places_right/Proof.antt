@@ -9,7 +9,7 @@ use Rattle.sets.specs.Below.{allBelow}
 use Rattle.sets.proofs.Below.{all-start, all-more, all-stop, all-end}
 use Rattle.engine.specs.configs.Subjects.{at}
 use Rattle.engine.specs.configs.Valid.{placeRight}
-use Rattle.engine.specs.inner.Reads.{masksOf, placesOf}
+use Rattle.engine.specs.inner.Reads.{placesOf}
 use Rattle.engine.specs.declared.Config.{Config}
 use Rattle.engine.proofs.configs.FaultLaws.{masks-read}
 use Rattle.engine.proofs.configs.valid.places_right.Statement.{statement}

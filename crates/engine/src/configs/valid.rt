@@ -168,7 +168,7 @@ fn pool_placed(
 }
 
 // Every mask says where there are reservations, of the type that the subject sends.
-fn places_right(n: u8, types: [u8; MOST_SUBJECTS], c: Config) -> bool
+fn places_of(n: u8, types: [u8; MOST_SUBJECTS], c: Config) -> bool
     requires { ⌜ n ≤ mostSubjects ⌝ }
     ensures { λ r. ⌜ r ≡ placesOf n types c ⌝ }
 {
@@ -210,7 +210,7 @@ pub(crate) fn fault(right: bool, m: Model, c: Config) -> u8
     if !rest_nobody(n, c) {
         return 10;
     }
-    if !places_right(n, types, c) {
+    if !places_of(n, types, c) {
         return 10;
     }
     0

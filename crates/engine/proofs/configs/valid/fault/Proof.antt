@@ -101,14 +101,14 @@ unfolding faultOf configValid
 returns-3 c = rw (is-right (c .before .before .before .before), rest (c .before) ∙ not-true _ (c .if3 .taken))
 
 -- what is found of the places decides
-places : (c : tie.After-places-right Inv-loop μ-loop) → let a = c .before .before .before .before .before .before .args in placesRight (a .t2) (a .t3) ≡ c .places-right .result
+places : (c : tie.After-places-of Inv-loop μ-loop) → let a = c .before .before .before .before .before .before .args in placesRight (a .t2) (a .t3) ≡ c .places-of .result
 places c =
     let all = c .before in
     let judged = all .before .before in
     let e = judged .before .before in
     let a = e .before .args in
     let inv = judged .before .loop .inv in
-    sym (c .places-right .ensures
+    sym (c .places-of .ensures
     ∙ places-read (a .t2) (a .t3) (is-right e) (rest (all .before) ∙ not-false _ (all .if3 .left)) _ (λ s l. inv .4 s (omega (arith, l, judged .loop-test .left))))
 
 returns-4 : tie.Need-returns-4 Inv-loop μ-loop

@@ -12,8 +12,8 @@ use Rattle.engine.specs.configs.Valid.{placeRight}
 use Rattle.engine.specs.inner.Reads.{placesOf}
 use Rattle.engine.specs.declared.Config.{Config}
 use Rattle.engine.proofs.configs.FaultLaws.{masks-read}
-use Rattle.engine.proofs.configs.valid.places_right.Statement.{statement}
-use Rattle.engine.proofs.configs.valid.places_right.Tie as tie
+use Rattle.engine.proofs.configs.valid.places_of.Statement.{statement}
+use Rattle.engine.proofs.configs.valid.places_of.Tie as tie
 
 -- the pool of r has the reservations that it must have
 abbrev placed : ℕ → List ℕ → Config → ℕ → Bool
@@ -55,8 +55,8 @@ returns-2 : tie.Need-returns-2 Inv-loop μ-loop
 unfolding placesOf
 returns-2 c = let inv = c .before .loop .inv in sym (all-end _ _ _ (inv .1) (c .loop-test .left) (inv .2))
 
-pub places-right-spec : {M : Type 1} → statement M
-places-right-spec =
+pub places-of-spec : {M : Type 1} → statement M
+places-of-spec =
     tie.close
     (tie.spec
     Inv-loop

@@ -24,9 +24,11 @@ use Rattle.engine.specs.declared.Config.{Config}
 use Rattle.engine.specs.declared.Subject.{Subject}
 use Rattle.engine.proofs.Config as config
 use Rattle.engine.proofs.Machine.{machine-held}
-use Rattle.exported.specs.Bytes.{shortBytes, wordBytes, eachOf, configSize, entryBytes, fieldBytes, marksBytes, entriesBytes, subjectBytes, configBytes, shortOf, wordOf, entryFrom, marksFrom, entriesFrom, subjectFrom, configFrom, flagPlace, flagsRight, isConfig}
+use Rattle.sets.specs.Stores.{eachOf}
+use Rattle.exported.specs.Bytes.{shortBytes, wordBytes, configSize, entryBytes, fieldBytes, marksBytes, entriesBytes, subjectBytes, configBytes, shortOf, wordOf, entryFrom, marksFrom, entriesFrom, subjectFrom, configFrom, flagPlace, flagsRight, isConfig}
 use Rattle.exported.specs.Laws.{WrittenIsRead}
-use Rattle.exported.proofs.ByteLaws.{length-each, length-entry, length-marks, length-subject, length-config}
+use Rattle.sets.proofs.Stores.{length-each}
+use Rattle.exported.proofs.ByteLaws.{length-entry, length-marks, length-subject, length-config}
 
 -- ---- numbers
 

@@ -1,13 +1,13 @@
--- Laws of bytes that are stored one after the other, and of the eight bytes of a command.
-use mathlib.Core.Path.{_≡_, refl, sym, ap, subst, _∙_}
-use mathlib.Core.List.{List, [], _∷_, _++_}
-use Prim.Native.Nat.{ℕ, zero, suc, _+_, _*_, _≤_, _<_}
-use native.Mathlib.Nat.{add-zero, add-suc, suc-add}
-use native.Mathlib.Numerals.{add-one}
+-- How many bytes a model and a configuration have, and the eight bytes of a command.
+use mathlib.Core.Path.{_≡_, refl, sym, _∙_}
+use mathlib.Core.List.{List, _∷_}
+use Prim.Native.Nat.{ℕ, _+_, _≤_}
 use native.Mathlib.Omega.{arith}
-use lib.ListN.{length, take, drop, set, length-append, length-set}
-use lib.Seq.{sets, length-sets, sets-eq, getD-drop}
+use lib.ListN.{length, take, drop, length-append}
+use lib.Seq.{getD-drop}
+use Rattle.sets.specs.Stores.{eachOf}
 use Rattle.sets.proofs.Below.{table-same, part-table}
+use Rattle.sets.proofs.Stores.{length-each}
 use Rattle.model.specs.Valid.{subjectAt, stateAt, exitAt, rowAt}
 use Rattle.model.specs.declared.Model.{Model}
 use Rattle.model.specs.declared.State.{State}
@@ -15,104 +15,8 @@ use Rattle.model.specs.declared.Subject as model-subject
 use Rattle.engine.specs.declared.Entry.{Entry}
 use Rattle.engine.specs.declared.Config.{Config}
 use Rattle.engine.specs.declared.Subject.{Subject}
-use Rattle.exported.specs.Bytes.{eachOf, onto, stored, configSize, entryBytes, marksBytes, entriesBytes, subjectBytes, configBytes, modelSize, rowBytes, ownBytes, exitBytes, stateBytes, modelBytes}
+use Rattle.exported.specs.Bytes.{configSize, entryBytes, marksBytes, entriesBytes, subjectBytes, configBytes, modelSize, rowBytes, ownBytes, exitBytes, stateBytes, modelBytes}
 use Rattle.exported.specs.Calls.{eightOf}
-
--- ---- one store, and then others
-
--- a buffer keeps its length
-pub length-stored : (old : List ℕ) (p : ℕ) (bytes : List ℕ) → length (stored old p bytes) ≡ length old
-unfolding stored
-length-stored old p bytes = length-sets old p bytes
-
--- nothing is stored
-pub stored-none : (old : List ℕ) (p : ℕ) → old ≡ stored old p []
-unfolding stored
-stored-none old p = refl
-
--- the stores of straight code: at p, p + 1, p + 2 and so on
-unfoldable pub chainedFrom : List ℕ → ℕ → ℕ → List ℕ → List ℕ
-chainedFrom old p k [] = old
-chainedFrom old p k (x ∷ xs) = chainedFrom (set old (p + k) x) p (suc k) xs
-
-unfoldable pub chained : List ℕ → ℕ → List ℕ → List ℕ
-chained old p [] = old
-chained old p (x ∷ xs) = chainedFrom (set old p x) p 1 xs
-
-from-stored : (xs old : List ℕ) (p k : ℕ) → chainedFrom old p k xs ≡ sets old (p + k) xs
-unfolding chainedFrom
-from-stored [] old p k = refl
-from-stored (x ∷ xs) old p k =
-    from-stored xs (set old (p + k) x) p (suc k) ∙ ap (λ (q : ℕ). sets (set old (p + k) x) q xs) (add-suc p k)
-
-pub chained-stored : (old : List ℕ) (p : ℕ) (xs : List ℕ) → chained old p xs ≡ stored old p xs
-unfolding chained stored
-chained-stored old p [] = refl
-chained-stored old p (x ∷ xs) = from-stored xs (set old p x) p 1 ∙ ap (λ (q : ℕ). sets (set old p x) q xs) (add-one p)
-
--- such stores keep the length
-from-length : (xs old : List ℕ) (p k : ℕ) → length (chainedFrom old p k xs) ≡ length old
-unfolding chainedFrom
-from-length [] old p k = refl
-from-length (x ∷ xs) old p k = from-length xs (set old (p + k) x) p (suc k) ∙ length-set old (p + k) x
-
-pub length-chained : (old : List ℕ) (p : ℕ) (xs : List ℕ) → length (chained old p xs) ≡ length old
-unfolding chained
-length-chained old p [] = refl
-length-chained old p (x ∷ xs) = from-length xs (set old p x) p 1 ∙ length-set old p x
-
--- so that there is a place for the next
-pub in-chain : (old : List ℕ) (p : ℕ) (xs : List ℕ) (i : ℕ) → i < length old → i < length (chained old p xs)
-in-chain old p xs i h = subst (λ (n : ℕ). i < n) (sym (length-chained old p xs)) h
-
-sets-more : (xs ys old : List ℕ) (p : ℕ) → sets old p (xs ++ ys) ≡ sets (sets old p xs) (p + length xs) ys
-sets-more [] ys old p = ap (λ (q : ℕ). sets old q ys) (sym (add-zero p))
-sets-more (x ∷ xs) ys old p =
-    sets-more xs ys (set old p x) (suc p)
-    ∙ ap (λ (q : ℕ). sets (sets (set old p x) (suc p) xs) q ys) (suc-add p (length xs) ∙ sym (add-suc p (length xs)))
-
--- after some bytes, those that come behind them
-pub stored-more : (old now next xs ys : List ℕ) (p q : ℕ) → now ≡ stored old p xs → next ≡ stored now q ys → q ≡ p + length xs
-    → next ≡ stored old p (xs ++ ys)
-unfolding stored
-stored-more old now next xs ys p q e f h =
-    f
-    ∙ ap (λ (l : List ℕ). sets l q ys) e
-    ∙ ap (λ (k : ℕ). sets (sets old p xs) k ys) h
-    ∙ sym (sets-more xs ys old p)
-
--- the same bytes
-pub stored-same : (old now xs ys : List ℕ) (p : ℕ) → now ≡ stored old p xs → xs ≡ ys → now ≡ stored old p ys
-stored-same old now xs ys p e f = e ∙ ap (stored old p) f
-
--- all of it at the start of a buffer with room for it
-pub stored-onto : (old bytes : List ℕ) → length bytes ≤ length old → stored old 0 bytes ≡ onto bytes old
-unfolding stored
-stored-onto old bytes h =
-    let e : 0 + length bytes ≡ length bytes = omega arith in
-    sets-eq bytes old 0 (omega arith) ∙ ap (λ (k : ℕ). bytes ++ drop k old) e
-
--- ---- the same number of bytes for each
-
-module _ (f : ℕ → List ℕ) (size : ℕ) (each : (i : ℕ) → length (f i) ≡ size) where
-  pub length-each : (n : ℕ) → length (eachOf f n) ≡ size * n
-  unfolding eachOf
-  length-each zero = omega arith
-  length-each (suc n) = length-append (eachOf f n) (f n) ∙ omega (arith, length-each n, each n)
-
-  -- a loop that stores each: its start, a turn and its end
-  pub each-start : (old : List ℕ) (p : ℕ) → old ≡ stored old p (eachOf f 0)
-  unfolding eachOf
-  each-start old p = stored-none old p
-
-  pub each-turn : (old now next : List ℕ) (p q i : ℕ) → q ≡ p + size * i → now ≡ stored old p (eachOf f i) → next ≡ stored now q (f i)
-      → next ≡ stored old p (eachOf f (i + 1))
-  unfolding eachOf
-  each-turn old now next p q i h e g =
-      rw add-one (stored-more old now next (eachOf f i) (f i) p q e g (h ∙ ap (λ (k : ℕ). p + k) (sym (length-each i))))
-
-pub each-end : (f : ℕ → List ℕ) (old now : List ℕ) (p i n : ℕ) → i ≤ n → n ≤ i → now ≡ stored old p (eachOf f i) → now ≡ stored old p (eachOf f n)
-each-end f old now p i n l g e = let k : i ≡ n = omega arith in e ∙ ap (λ (j : ℕ). stored old p (eachOf f j)) k
 
 -- ---- how many bytes there are
 

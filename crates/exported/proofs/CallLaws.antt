@@ -33,9 +33,11 @@ use Rattle.engine.specs.Tapes.{commands, configAfter, written}
 use Rattle.engine.proofs.RuleLaws.{guarded-refusal, number-above, rules-ascend}
 use Rattle.engine.proofs.TapeLaws.{ran-refusal, refused-unwritten}
 use Rattle.engine_promises.proofs.Refusals.{effectOf, effect-fine, coded-is}
-use Rattle.exported.specs.Bytes.{onto, stored, configSize, configBytes, configFrom, flagsRight, isConfig, modelSize, modelBytes}
+use Rattle.sets.specs.Stores.{onto, stored}
+use Rattle.exported.specs.Bytes.{configSize, configBytes, configFrom, flagsRight, isConfig, modelSize, modelBytes}
 use Rattle.exported.specs.Calls.{unlessRefused, modelIn, eightOf, loaderNumber, loadRefusals, loadRoom, freshRefusals, freshRoom, stepIn, stepRefusals, answerBytes, stepRoom, stepValues, runIn, runRefusals, runRoom, runLines, walkRefusals, walkRoom}
-use Rattle.exported.proofs.ByteLaws.{stored-same, stored-onto, length-config, length-model}
+use Rattle.sets.proofs.Stores.{stored-same, stored-onto}
+use Rattle.exported.proofs.ByteLaws.{length-config, length-model}
 
 -- ---- loading
 

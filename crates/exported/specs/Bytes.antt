@@ -1,11 +1,11 @@
 -- Models and configurations as bytes, numbers of several bytes with the low byte first.
 use mathlib.Core.Bool.{Bool, _&&_, not, cond}
 use mathlib.Core.List.{List, [], _∷_, _++_}
-use Prim.Native.Nat.{ℕ, zero, suc, _+_, _*_, _/_, _%_}
+use Prim.Native.Nat.{ℕ, _+_, _*_, _/_, _%_}
 use lib.Dec.{eqb, leb}
 use lib.ListN.{length, drop, getD}
-use lib.Seq.{sets}
 use Rattle.sets.specs.Below.{allBelow, table}
+use Rattle.sets.specs.Stores.{eachOf}
 use Rattle.model.specs.Sizes.{mostSubjects, mostRows, mostExits, statePlaces}
 use Rattle.model.specs.Valid.{subjectAt, stateAt, exitAt, rowAt}
 use Rattle.model.specs.declared.Exit.{Exit}
@@ -26,19 +26,6 @@ shortBytes x = x % 256 ∷ x / 256 ∷ []
 
 abbrev pub wordBytes : ℕ → List ℕ
 wordBytes x = shortBytes (x % 65536) ++ shortBytes (x / 65536)
-
--- f 0, f 1, .. f (n - 1), one behind the other
-unfoldable pub eachOf : (ℕ → List ℕ) → ℕ → List ℕ
-eachOf f zero = []
-eachOf f (suc n) = eachOf f n ++ f n
-
--- the bytes at the start of a buffer, what is behind them unchanged
-abbrev pub onto : List ℕ → List ℕ → List ℕ
-onto bytes old = bytes ++ drop (length bytes) old
-
--- the buffer with the bytes from place p on
-unfoldable pub stored : List ℕ → ℕ → List ℕ → List ℕ
-stored old p bytes = sets old p bytes
 
 -- ---- a configuration: 187 bytes a subject
 

@@ -24,7 +24,8 @@ use Rattle.engine.specs.commands.Codes.{subjectOf, isCode, codeIn, commandIn}
 use Rattle.engine.specs.commands.Rules.{rules, firstNumber}
 use Rattle.engine.specs.Steps.{codedStep}
 use Rattle.engine.specs.Tapes.{commands, configAfter, ran, written}
-use Rattle.exported.specs.Bytes.{shortBytes, onto, configSize, configBytes, configFrom, isConfig, modelSize, modelBytes}
+use Rattle.sets.specs.Stores.{onto}
+use Rattle.exported.specs.Bytes.{shortBytes, configSize, configBytes, configFrom, isConfig, modelSize, modelBytes}
 
 -- a buffer after a call: as it was where a refusal holds
 unfoldable pub unlessRefused : List (Bool × ℕ) → List ℕ → List ℕ → List ℕ

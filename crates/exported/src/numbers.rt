@@ -3,7 +3,8 @@ ghost use mathlib.Core.Path.{_≡_};
 ghost use mathlib.Core.Bool.{cond};
 ghost use Prim.Native.Nat.{_+_, _≤_};
 ghost use lib.ListN.{length};
-ghost use Rattle.exported.specs.Bytes.{wordBytes, stored, shortOf, wordOf};
+ghost use Rattle.sets.specs.Stores.{stored};
+ghost use Rattle.exported.specs.Bytes.{wordBytes, shortOf, wordOf};
 ghost use Rattle.exported.specs.Calls.{eightOf};
 use sets::byte;
 

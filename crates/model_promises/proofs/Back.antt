@@ -24,9 +24,9 @@ use Rattle.model.specs.declared.Model.{Model}
 use Rattle.model.specs.declared.Row.{Row}
 use Rattle.model.specs.declared.Stored.{Stored}
 use Rattle.model.specs.declared.Subject.{Subject}
-use Rattle.model_promises.proofs.Facts.{GoodModel, statesOf, rowsOf, exitsOf, exit-is}
-use Rattle.model_promises.proofs.Lines.{length-states, length-exits, length-limits}
-use Rattle.model_promises.proofs.Packed.{Packed}
+use Rattle.model.proofs.Facts.{GoodModel, statesOf, rowsOf, exitsOf, exit-is}
+use Rattle.model.proofs.Lines.{length-states, length-exits, length-limits}
+use Rattle.model.proofs.Packed.{Packed}
 
 -- ---- a record says what it was made of
 

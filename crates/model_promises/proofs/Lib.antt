@@ -1,9 +1,4 @@
-pub mod Pieces
-pub mod Block
-pub mod Places
-pub mod Packed
 pub mod Facts
-pub mod Lines
 pub mod Back
 pub mod Keys
 pub mod Right

@@ -31,9 +31,9 @@ use Rattle.blocks.specs.declared.Verdict.the-variants.{Good, Length, Check, Blo
 use Rattle.model_promises.specs.Loads.{AreBytes, LoadsTo, Passes1, Passes2, Passes3, Passes4, FirstWrong, Means, wrong-length, wrong-check, wrong-block, wrong-record, wrong-across, all-right}
 use Rattle.model_promises.specs.Promises.{VerdictMeans, VerdictMeant, RefusedEmpty, LoadsValid, LoadsHeld, ValidLoads, ValidExactly}
 use Rattle.model_promises.proofs.Back.{model-back, place-back}
-use Rattle.model_promises.proofs.Facts.{model-good}
-use Rattle.model_promises.proofs.Lines.{sound}
-use Rattle.model_promises.proofs.Packed.{packed}
+use Rattle.model.proofs.Facts.{model-good}
+use Rattle.model.proofs.Lines.{sound}
+use Rattle.model.proofs.Packed.{packed}
 use Rattle.model_promises.proofs.Right as right
 
 -- ---- what each verdict means

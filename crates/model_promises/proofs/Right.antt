@@ -24,11 +24,11 @@ use Rattle.model.specs.declared.Row.{Row}
 use Rattle.model.specs.declared.State.{State}
 use Rattle.model.specs.declared.Subject.{Subject}
 use Rattle.model_promises.proofs.Back.{word-back, count-states, state-record}
-use Rattle.model_promises.proofs.Facts.{GoodSubject, GoodModel, statesOf, exitsOf, has-state}
+use Rattle.model.proofs.Facts.{GoodSubject, GoodModel, statesOf, exitsOf, has-state}
 use Rattle.model_promises.proofs.Keys.{kind-found, key-apart}
-use Rattle.model_promises.proofs.Lines.{length-headers, lined-all}
-use Rattle.model_promises.proofs.Packed.{Packed, Standing}
-use Rattle.model_promises.proofs.Pieces.{zeros}
+use Rattle.model.proofs.Lines.{length-headers, lined-all}
+use Rattle.model.proofs.Packed.{Packed, Standing}
+use Rattle.model.proofs.Pieces.{zeros}
 
 -- ---- fields
 

@@ -5,3 +5,4 @@ pub mod Lists
 pub mod Masks
 pub mod Groups
 pub mod Bytes
+pub mod Stores

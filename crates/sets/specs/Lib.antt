@@ -3,3 +3,4 @@ pub mod Below
 pub mod Groups
 pub mod Lists
 pub mod Masks
+pub mod Stores

@@ -4,8 +4,10 @@ use native.Mathlib.Omega.{arith}
 use borrow.Author.Needs.{needs}
 use lib.ListN.{length, getD, set, length-set}
 use Rattle.engine.specs.configs.Subjects.{at}
-use Rattle.exported.specs.Bytes.{eachOf, stored, subjectBytes, configBytes}
-use Rattle.exported.proofs.ByteLaws.{length-subject, each-start, each-turn, each-end}
+use Rattle.sets.specs.Stores.{eachOf, stored}
+use Rattle.exported.specs.Bytes.{subjectBytes, configBytes}
+use Rattle.sets.proofs.Stores.{each-start, each-turn, each-end}
+use Rattle.exported.proofs.ByteLaws.{length-subject}
 use Rattle.exported.proofs.config_bytes.put_config.Statement.{statement}
 use Rattle.exported.proofs.config_bytes.put_config.Tie as tie
 

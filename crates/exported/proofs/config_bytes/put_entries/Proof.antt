@@ -4,8 +4,10 @@ use native.Mathlib.Omega.{arith}
 use borrow.Author.Needs.{needs}
 use lib.ListN.{length, getD, set, length-set}
 use Rattle.engine.specs.pools.Entries.{blankEntry}
-use Rattle.exported.specs.Bytes.{entryBytes, eachOf, stored, entriesBytes}
-use Rattle.exported.proofs.ByteLaws.{length-entry, each-start, each-turn, each-end}
+use Rattle.sets.specs.Stores.{eachOf, stored}
+use Rattle.exported.specs.Bytes.{entryBytes, entriesBytes}
+use Rattle.sets.proofs.Stores.{each-start, each-turn, each-end}
+use Rattle.exported.proofs.ByteLaws.{length-entry}
 use Rattle.exported.proofs.config_bytes.put_entries.Statement.{statement}
 use Rattle.exported.proofs.config_bytes.put_entries.Tie as tie
 

@@ -3,8 +3,9 @@ use mathlib.Core.List.{List, [], _∷_}
 use Prim.Native.Nat.{ℕ}
 use native.Mathlib.Omega.{arith}
 use borrow.Author.Needs.{needs}
-use Rattle.exported.specs.Bytes.{wordBytes, stored, entryBytes}
-use Rattle.exported.proofs.ByteLaws.{chained, chainedFrom, chained-stored, in-chain}
+use Rattle.sets.specs.Stores.{stored}
+use Rattle.exported.specs.Bytes.{wordBytes, entryBytes}
+use Rattle.sets.proofs.Stores.{chained, chainedFrom, chained-stored, in-chain}
 use Rattle.exported.proofs.config_bytes.put_entry.Statement.{statement}
 use Rattle.exported.proofs.config_bytes.put_entry.Tie as tie
 

@@ -3,7 +3,7 @@ use native.Mathlib.Omega.{arith}
 use borrow.Author.Needs.{needs}
 use lib.ListN.{length-set}
 use Rattle.exported.specs.Bytes.{fieldBytes}
-use Rattle.exported.proofs.ByteLaws.{chained, chainedFrom, chained-stored, in-chain}
+use Rattle.sets.proofs.Stores.{chained, chainedFrom, chained-stored, in-chain}
 use Rattle.exported.proofs.config_bytes.put_fields.Statement.{statement}
 use Rattle.exported.proofs.config_bytes.put_fields.Tie as tie
 

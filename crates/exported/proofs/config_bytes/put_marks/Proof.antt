@@ -3,8 +3,9 @@ use Prim.Native.Nat.{ℕ, _+_, _*_, _-_, _≤_}
 use native.Mathlib.Omega.{arith}
 use borrow.Author.Needs.{needs}
 use lib.ListN.{length, getD, set, length-set}
-use Rattle.exported.specs.Bytes.{wordBytes, eachOf, stored, marksBytes}
-use Rattle.exported.proofs.ByteLaws.{each-start, each-turn, each-end}
+use Rattle.sets.specs.Stores.{eachOf, stored}
+use Rattle.exported.specs.Bytes.{wordBytes, marksBytes}
+use Rattle.sets.proofs.Stores.{each-start, each-turn, each-end}
 use Rattle.exported.proofs.config_bytes.put_marks.Statement.{statement}
 use Rattle.exported.proofs.config_bytes.put_marks.Tie as tie
 

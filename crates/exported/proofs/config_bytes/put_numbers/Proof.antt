@@ -2,7 +2,7 @@ use mathlib.Core.List.{List, [], _∷_}
 use native.Mathlib.Omega.{arith}
 use borrow.Author.Needs.{needs}
 use Rattle.exported.specs.Calls.{valueBytes}
-use Rattle.exported.proofs.ByteLaws.{chained, chainedFrom, chained-stored, in-chain}
+use Rattle.sets.proofs.Stores.{chained, chainedFrom, chained-stored, in-chain}
 use Rattle.exported.proofs.config_bytes.put_numbers.Statement.{statement}
 use Rattle.exported.proofs.config_bytes.put_numbers.Tie as tie
 

@@ -5,7 +5,8 @@ use native.Mathlib.Omega.{arith}
 use borrow.Author.Needs.{needs}
 use lib.ListN.{length-set}
 use Rattle.exported.specs.Bytes.{fieldBytes, marksBytes, subjectBytes}
-use Rattle.exported.proofs.ByteLaws.{chained, chainedFrom, chained-stored, stored-more, length-marks}
+use Rattle.sets.proofs.Stores.{chained, chainedFrom, chained-stored, stored-more}
+use Rattle.exported.proofs.ByteLaws.{length-marks}
 use Rattle.exported.proofs.config_bytes.put_subject.Statement.{statement}
 use Rattle.exported.proofs.config_bytes.put_subject.Tie as tie
 

@@ -1,7 +1,7 @@
 use mathlib.Core.Path.{sym, ap}
 use borrow.Author.Needs.{needs}
 use Rattle.exported.specs.Calls.{answerBytes}
-use Rattle.exported.proofs.ByteLaws.{stored-same}
+use Rattle.sets.proofs.Stores.{stored-same}
 use Rattle.exported.proofs.config_bytes.put_values.Statement.{statement}
 use Rattle.exported.proofs.config_bytes.put_values.Tie as tie
 

@@ -3,7 +3,7 @@ use native.Mathlib.Omega.{arith}
 use borrow.Author.Needs.{needs}
 use lib.ListN.{length-set}
 use Rattle.exported.specs.Bytes.{headBytes}
-use Rattle.exported.proofs.ByteLaws.{chained, chainedFrom, chained-stored, in-chain}
+use Rattle.sets.proofs.Stores.{chained, chainedFrom, chained-stored, in-chain}
 use Rattle.exported.proofs.model_bytes.put_head.Statement.{statement}
 use Rattle.exported.proofs.model_bytes.put_head.Tie as tie
 

@@ -5,8 +5,10 @@ use native.Mathlib.Omega.{arith}
 use borrow.Author.Needs.{needs}
 use lib.ListN.{length-set}
 use Rattle.model.specs.Valid.{subjectAt}
-use Rattle.exported.specs.Bytes.{eachOf, ownBytes, modelBytes}
-use Rattle.exported.proofs.ByteLaws.{chained, chainedFrom, chained-stored, stored-more, length-each, length-own}
+use Rattle.sets.specs.Stores.{eachOf}
+use Rattle.exported.specs.Bytes.{ownBytes, modelBytes}
+use Rattle.sets.proofs.Stores.{chained, chainedFrom, chained-stored, stored-more, length-each}
+use Rattle.exported.proofs.ByteLaws.{length-own}
 use Rattle.exported.proofs.model_bytes.put_model.Statement.{statement}
 use Rattle.exported.proofs.model_bytes.put_model.Tie as tie
 

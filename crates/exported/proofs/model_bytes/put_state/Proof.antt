@@ -5,8 +5,9 @@ use native.Mathlib.Omega.{arith}
 use borrow.Author.Needs.{needs}
 use lib.ListN.{length, getD, set, length-set}
 use Rattle.model.specs.Valid.{exitAt}
-use Rattle.exported.specs.Bytes.{eachOf, stored, exitBytes, stateBytes}
-use Rattle.exported.proofs.ByteLaws.{chained, chainedFrom, chained-stored, length-stored, stored-more, each-start, each-turn, each-end}
+use Rattle.sets.specs.Stores.{eachOf, stored}
+use Rattle.exported.specs.Bytes.{exitBytes, stateBytes}
+use Rattle.sets.proofs.Stores.{chained, chainedFrom, chained-stored, length-stored, stored-more, each-start, each-turn, each-end}
 use Rattle.exported.proofs.model_bytes.put_state.Statement.{statement}
 use Rattle.exported.proofs.model_bytes.put_state.Tie as tie
 

@@ -4,8 +4,10 @@ use native.Mathlib.Omega.{arith}
 use borrow.Author.Needs.{needs}
 use lib.ListN.{length, getD, set, length-set}
 use Rattle.model.specs.Valid.{stateAt}
-use Rattle.exported.specs.Bytes.{eachOf, stored, stateBytes}
-use Rattle.exported.proofs.ByteLaws.{stored-same, length-state, each-start, each-turn, each-end}
+use Rattle.sets.specs.Stores.{eachOf, stored}
+use Rattle.exported.specs.Bytes.{stateBytes}
+use Rattle.sets.proofs.Stores.{stored-same, each-start, each-turn, each-end}
+use Rattle.exported.proofs.ByteLaws.{length-state}
 use Rattle.exported.proofs.model_bytes.put_states.Statement.{statement}
 use Rattle.exported.proofs.model_bytes.put_states.Tie as tie
 

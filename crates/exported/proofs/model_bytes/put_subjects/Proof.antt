@@ -4,8 +4,10 @@ use native.Mathlib.Omega.{arith}
 use borrow.Author.Needs.{needs}
 use lib.ListN.{length, getD, set, length-set}
 use Rattle.model.specs.Valid.{subjectAt}
-use Rattle.exported.specs.Bytes.{eachOf, stored, ownBytes}
-use Rattle.exported.proofs.ByteLaws.{length-own, each-start, each-turn, each-end}
+use Rattle.sets.specs.Stores.{eachOf, stored}
+use Rattle.exported.specs.Bytes.{ownBytes}
+use Rattle.sets.proofs.Stores.{each-start, each-turn, each-end}
+use Rattle.exported.proofs.ByteLaws.{length-own}
 use Rattle.exported.proofs.model_bytes.put_subjects.Statement.{statement}
 use Rattle.exported.proofs.model_bytes.put_subjects.Tie as tie
 

@@ -2,7 +2,7 @@ use mathlib.Core.List.{[], _∷_}
 use native.Mathlib.Omega.{arith}
 use borrow.Author.Needs.{needs}
 use Rattle.exported.specs.Bytes.{wordBytes}
-use Rattle.exported.proofs.ByteLaws.{chained, chainedFrom, chained-stored, in-chain}
+use Rattle.sets.proofs.Stores.{chained, chainedFrom, chained-stored, in-chain}
 use Rattle.exported.proofs.numbers.put_word.Statement.{statement}
 use Rattle.exported.proofs.numbers.put_word.Tie as tie
 

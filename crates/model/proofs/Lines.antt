@@ -14,15 +14,15 @@ use Rattle.sets.specs.Groups.{lined}
 use Rattle.sets.proofs.Tests.{choose}
 use Rattle.sets.proofs.Below.{sum-bound, length-table, table-at}
 use Rattle.sets.proofs.Groups.{length-lined, lined-at, spot}
 use Rattle.model.specs.Valid.{subjectAt, stateAt, exitAt, rowAt, Held}
 use Rattle.model.specs.File.{headerRecord, subjectRecord, stateRecord, exitRecord, limitRecord, headers, stateRecords, exitRecords, limitRecords, recordsOf, blocksFor, startOf}
 use Rattle.model.specs.declared.Exit.{Exit}
 use Rattle.model.specs.declared.Model.{Model}
 use Rattle.model.specs.declared.Row.{Row}
 use Rattle.model.specs.declared.State.{State}
 use Rattle.model.specs.declared.Subject.{Subject}
-use Rattle.model_promises.proofs.Facts.{Small, GoodExit, GoodRow, GoodSubject, GoodModel, stored-after}
-use Rattle.model_promises.proofs.Packed.{Sound}
+use Rattle.model.proofs.Facts.{Small, GoodExit, GoodRow, GoodSubject, GoodModel, stored-after}
+use Rattle.model.proofs.Packed.{Sound}
 
 byte : (x : ℕ) {s : List ℕ} → x < 256 → Bytes s → Bytes (x ∷ s)
 byte x h b = h & b

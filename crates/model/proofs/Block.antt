@@ -11,8 +11,8 @@ use Rattle.sets.proofs.Bytes.{Bytes, none, _&_, append-bytes, zero-bytes}
 use Rattle.sets.proofs.Tests.{and-true, within-true}
 use Rattle.blocks.specs.Checks.{stepOf, checkOf}
 use Rattle.blocks.specs.Blocks.{numberIn, kindIn, usedIn, bodyIn, recordIn, checkRight, roomRight}
 use Rattle.model.specs.File.{joined, fourBytes, bodyWith, blockWith}
-use Rattle.model_promises.proofs.Pieces.{Each, length-joined, piece-at, joined-bytes, zeros}
+use Rattle.model.proofs.Pieces.{Each, length-joined, piece-at, joined-bytes, zeros}
 
 -- ---- the check
 

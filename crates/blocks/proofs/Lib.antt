@@ -1,2 +1,3 @@
 pub mod FoldLaws
 pub mod BlockLaws
+pub mod Made

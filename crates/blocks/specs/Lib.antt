@@ -1,3 +1,4 @@
 pub mod Checks
 pub mod Blocks
+pub mod Made
 pub mod Verdicts

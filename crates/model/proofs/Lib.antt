@@ -3,8 +3,6 @@ pub mod RuleLaws
 pub mod StageLaws
 pub mod DecodedLaws
 pub mod Machine
-pub mod Pieces
-pub mod Block
 pub mod Places
 pub mod Packed
 pub mod Facts

@@ -32,7 +32,7 @@ pub record Twelve (r : List ℕ) : Type 0 where
   pub long : length r ≡ 12
   pub bytes : Bytes r
 
-header-twelve : (m : Model) → m .n ≤ 16 → m .start < 65536 → Twelve (headerRecord m)
+header-twelve : (m : Model) → m .n ≤ 16 → m .start < 65536 → Twelve (headerRecord (m .n) (m .start))
 header-twelve m n s =
     record { long = refl; bytes = byte (m .n) (omega arith) (byte (m .start % 256) (omega arith) (byte (m .start / 256) (omega arith) (zero-bytes 9))) }
 

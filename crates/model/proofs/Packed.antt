@@ -13,8 +13,8 @@ use Rattle.sets.proofs.Tests.{and-true, within-true}
 use Rattle.blocks.specs.Blocks.{blocks, blockOf, kindOf, usedOf, recordOf, recordNo, countOf, checkRight, roomRight}
 use Rattle.model.specs.Stages.{lengthRight, kindRight, fullRight, blockRight, recordBefore}
 use Rattle.model.specs.File.{startOf, fileWith}
-use Rattle.model.proofs.Pieces.{length-part}
-use Rattle.model.proofs.Block.{check-right, room-right}
+use Rattle.sets.proofs.Pieces.{length-part}
+use Rattle.blocks.proofs.Made.{check-right, room-right}
 use Rattle.model.proofs.Places.{Place, Twelve, start-none, start-more, start-grows, place, in-file, kind-below, kind-from, fits, length-file, blocks-are, no-block, block-is, kind-at, used-at, record-at, file-bytes, no-is, count-of}
 
 -- records that a file can hold, by kind: `rs k` are those of kind k

@@ -11,9 +11,11 @@ use Rattle.sets.proofs.Bytes.{Bytes, bytes-by}
 use Rattle.sets.specs.Below.{sumBelow, table}
 use Rattle.sets.proofs.Below.{sum-grows, length-table, table-at}
 use Rattle.blocks.specs.Blocks.{blocks, blockOf, kindOf, usedOf, recordOf, firstBlock, countOf, recordFrom, recordNo}
-use Rattle.model.specs.File.{joined, blockWith, blocksFor, startOf, kindAtBlock, recordsAtBlock, fileWith}
-use Rattle.model.proofs.Pieces.{part, length-part, part-at, Each, length-joined, piece-at, joined-bytes, sum-is, count-is, leb-not}
-use Rattle.model.proofs.Block.{Fits, length-block, kind-in, used-in, record-in, block-bytes}
+use Rattle.sets.specs.Stores.{joined}
+use Rattle.blocks.specs.Made.{blockWith}
+use Rattle.model.specs.File.{blocksFor, startOf, kindAtBlock, recordsAtBlock, fileWith}
+use Rattle.sets.proofs.Pieces.{part, length-part, part-at, Each, length-joined, piece-at, joined-bytes, sum-is, count-is, leb-not}
+use Rattle.blocks.proofs.Made.{Fits, length-block, kind-in, used-in, record-in, block-bytes}
 
 -- ---- kinds and their blocks
 

@@ -6,7 +6,8 @@ use lib.Dec.{eqb, leb}
 use lib.ListN.{length, take, drop, replicate}
 use Rattle.sets.specs.Below.{table, sumBelow, countBelow}
 use Rattle.sets.specs.Groups.{lined}
-use Rattle.blocks.specs.Checks.{checkOf}
+use Rattle.sets.specs.Stores.{joined}
+use Rattle.blocks.specs.Made.{twoBytes, blockWith}
 use Rattle.model.specs.Sizes.{mostSubjects, mostStates, statePlaces}
 use Rattle.model.specs.Valid.{subjectAt, stateAt, exitAt, rowAt}
 use Rattle.model.specs.declared.Exit.{Exit}
@@ -17,12 +18,8 @@ use Rattle.model.specs.declared.Subject.{Subject}
 
 -- ---- records
 
--- two bytes, low first
-abbrev pub twoBytes : ℕ → List ℕ
-twoBytes x = x % 256 ∷ x / 256 ∷ []
-
-abbrev pub headerRecord : Model → List ℕ
-headerRecord m = m .n ∷ twoBytes (m .start) ++ replicate 9 0
+abbrev pub headerRecord : ℕ → ℕ → List ℕ
+headerRecord n start = n ∷ twoBytes start ++ replicate 9 0
 
 abbrev pub subjectRecord : ℕ → Subject → List ℕ
 subjectRecord s sub = s ∷ sub .states ∷ sub .initial ∷ replicate 9 0
@@ -39,7 +36,7 @@ limitRecord owner w = owner ∷ w .sender ∷ w .typ ∷ w .limit ∷ replicate 
 
 -- the records of each kind, in order
 unfoldable pub headers : Model → List (List ℕ)
-headers m = headerRecord m ∷ table (λ s. subjectRecord s (subjectAt m s)) (m .n)
+headers m = headerRecord (m .n) (m .start) ∷ table (λ s. subjectRecord s (subjectAt m s)) (m .n)
 
 unfoldable pub stateRecords : Model → List (List ℕ)
 stateRecords m = lined (λ s. subjectAt m s .states) (λ s t. stateRecord s t (stateAt m (s * mostStates + t))) mostSubjects
@@ -54,24 +51,6 @@ limitRecords m = lined (λ s. subjectAt m s .rows) (λ s k. limitRecord s (rowAt
 unfoldable pub recordsOf : Model → ℕ → List (List ℕ)
 recordsOf m k =
     cond (eqb k 1) (headers m) (cond (eqb k 2) (stateRecords m) (cond (eqb k 3) (exitRecords m) (cond (eqb k 4) (limitRecords m) [])))
-
--- ---- blocks
-
--- one run of bytes out of many
-unfoldable pub joined : List (List ℕ) → List ℕ
-joined [] = []
-joined (r ∷ rs) = r ++ joined rs
-
--- bytes 0 to 507 of block b, of kind k, with the records rs: unused room is zero
-unfoldable pub bodyWith : ℕ → ℕ → List (List ℕ) → List ℕ
-bodyWith b k rs = twoBytes b ++ k ∷ length rs ∷ joined rs ++ replicate (504 - 12 * length rs) 0
-
--- four bytes, low first
-abbrev pub fourBytes : ℕ → List ℕ
-fourBytes x = x % 256 ∷ x / 256 % 256 ∷ x / 65536 % 256 ∷ x / 16777216 ∷ []
-
-unfoldable pub blockWith : ℕ → ℕ → List (List ℕ) → List ℕ
-blockWith b k rs = bodyWith b k rs ++ fourBytes (checkOf (bodyWith b k rs))
 
 -- ---- the file of records, where `rs k` are those of kind k; of kind 0 and from 5 up there are none
 

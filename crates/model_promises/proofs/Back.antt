@@ -60,7 +60,7 @@ module _ (m : Model) (held : Held m) (good : GoodModel m) (file : List ℕ) (pk 
 
   -- ---- the records, found
 
-  pub header-first : recordOf file 0 0 ≡ headerRecord m
+  pub header-first : recordOf file 0 0 ≡ headerRecord (m .n) (m .start)
   unfolding recordsOf headers
   header-first = pk .headers 0 (omega arith)
 

@@ -10,7 +10,7 @@ use borrow.Author.Tests.{ltb-true, ltb-false, lt-ltb, le-ltb, eqb-true, eqb-fals
 use lib.Dec.{ltb, eqb}
 use Rattle.sets.specs.Below.{sumBelow, countBelow}
 use Rattle.sets.proofs.Below.{last-or, count-miss, count-bound, sum-same}
-use Rattle.model.proofs.Pieces.{sum-is, count-is}
+use Rattle.sets.proofs.Pieces.{sum-is, count-is}
 
 -- the sum of sums
 sum-both : (f g : ℕ → ℕ) (n : ℕ) → sumBelow (λ i. f i + g i) n ≡ sumBelow f n + sumBelow g n

@@ -28,7 +28,7 @@ use Rattle.model.proofs.Facts.{GoodSubject, GoodModel, statesOf, exitsOf, has-s
 use Rattle.model_promises.proofs.Keys.{kind-found, key-apart}
 use Rattle.model.proofs.Lines.{length-headers, lined-all}
 use Rattle.model.proofs.Packed.{Packed, Standing}
-use Rattle.model.proofs.Pieces.{zeros}
+use Rattle.sets.proofs.Pieces.{zeros}
 
 -- ---- fields
 
@@ -49,7 +49,7 @@ limit-fields : (s : ℕ) (w : Row) → rowFits w ≡ true → limitRight (limitR
 unfolding limitRight rowOf
 limit-fields s w h = rw h (zeros 8)
 
-header-fields : (used : ℕ) (m : Model) → 1 ≤ m .n → m .n ≤ 16 → used ≡ suc (m .n) → headerRight used 0 (headerRecord m) ≡ true
+header-fields : (used : ℕ) (m : Model) → 1 ≤ m .n → m .n ≤ 16 → used ≡ suc (m .n) → headerRight used 0 (headerRecord (m .n) (m .start)) ≡ true
 unfolding headerRight
 header-fields used m l h e = and-true (and-true (within-true l h) (eq-eqb used (m .n + 1) (omega arith))) (zeros 9)
 

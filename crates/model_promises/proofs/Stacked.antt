@@ -21,7 +21,7 @@ use Rattle.model.specs.Records.{fullKey, orderOf}
 use Rattle.model.specs.Stages.{lengthRight, kindRight, fullRight, blockRight, recordBefore, headerRight, fieldsRight, recordRight}
 use Rattle.model_promises.specs.Loads.{Passes1, Passes3, Passes4}
 use Rattle.model_promises.proofs.Ordered.{countLess, never-falls, less-first}
-use Rattle.model.proofs.Pieces.{sum-is}
+use Rattle.sets.proofs.Pieces.{sum-is}
 
 -- ---- blocks whose kinds never fall, each full but the last of its kind
 

@@ -6,3 +6,4 @@ pub mod Masks
 pub mod Groups
 pub mod Bytes
 pub mod Stores
+pub mod Pieces

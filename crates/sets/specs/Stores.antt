@@ -1,8 +1,13 @@
--- Bytes in a buffer: stored from a place on, and what is behind them.
-use mathlib.Core.List.{List, [], _++_}
+-- Runs of bytes: one out of many, and bytes in a buffer, stored from a place on.
+use mathlib.Core.List.{List, [], _∷_, _++_}
 use Prim.Native.Nat.{ℕ, zero, suc}
 use lib.ListN.{length, drop}
 use lib.Seq.{sets}
+
+-- one run of bytes out of many
+unfoldable pub joined : List (List ℕ) → List ℕ
+joined [] = []
+joined (r ∷ rs) = r ++ joined rs
 
 -- f 0, f 1, .. f (n - 1), one behind the other
 unfoldable pub eachOf : (ℕ → List ℕ) → ℕ → List ℕ

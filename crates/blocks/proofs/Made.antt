@@ -9,10 +9,11 @@ use lib.ListN.{length, getD, drop, replicate, length-append, length-replicate}
 use lib.Seq.{take-at, drop-at, getD-append-add}
 use Rattle.sets.proofs.Bytes.{Bytes, none, _&_, append-bytes, zero-bytes}
 use Rattle.sets.proofs.Tests.{and-true, within-true}
 use Rattle.blocks.specs.Checks.{stepOf, checkOf}
 use Rattle.blocks.specs.Blocks.{numberIn, kindIn, usedIn, bodyIn, recordIn, checkRight, roomRight}
-use Rattle.model.specs.File.{joined, fourBytes, bodyWith, blockWith}
-use Rattle.model.proofs.Pieces.{Each, length-joined, piece-at, joined-bytes, zeros}
+use Rattle.sets.specs.Stores.{joined}
+use Rattle.blocks.specs.Made.{fourBytes, bodyWith, blockWith}
+use Rattle.sets.proofs.Pieces.{Each, length-joined, piece-at, joined-bytes, zeros}
 
 -- ---- the check
 

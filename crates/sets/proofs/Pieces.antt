@@ -9,11 +9,11 @@ use borrow.Author.Tests.{ltb-true, ltb-false, lt-ltb, le-ltb, leb-true, leb-fals
 use lib.Dec.{ltb, leb}
 use lib.ListN.{length, getD, take, drop, replicate, length-append, length-take, length-drop, length-replicate, getD-replicate}
 use lib.Seq.{take-at, drop-at, drop-drop, getD-take, getD-drop}
 use Rattle.sets.specs.Below.{sumBelow, countBelow}
 use Rattle.sets.specs.Tests.{allZero}
 use Rattle.sets.proofs.Below.{all-by}
 use Rattle.sets.proofs.Bytes.{Bytes, none, append-bytes}
-use Rattle.model.specs.File.{joined}
+use Rattle.sets.specs.Stores.{joined}
 
 -- ---- parts
 

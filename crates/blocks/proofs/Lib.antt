@@ -1,3 +1,4 @@
 pub mod FoldLaws
 pub mod BlockLaws
 pub mod Made
+pub mod MakingLaws

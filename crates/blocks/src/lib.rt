@@ -1,9 +1,12 @@
 // Files in blocks of 512 bytes: the check, the blocks and their records, and the verdict on a file.
 mod checks;
+mod making;
 mod parts;
 mod verdicts;
 
 pub use checks::check;
+pub use making::put;
+pub use making::seal;
 pub use parts::block;
 pub use parts::check_right;
 pub use parts::count_of;

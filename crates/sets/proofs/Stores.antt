@@ -1,12 +1,12 @@
 -- Laws of bytes that are stored one after the other.
 use mathlib.Core.Path.{_≡_, refl, sym, ap, subst, _∙_}
-use mathlib.Core.List.{List, [], _∷_, _++_}
+use mathlib.Core.List.{List, [], _∷_, _++_, append-assoc}
 use Prim.Native.Nat.{ℕ, zero, suc, _+_, _*_, _≤_, _<_}
 use native.Mathlib.Nat.{add-zero, add-suc, suc-add}
 use native.Mathlib.Numerals.{add-one}
 use native.Mathlib.Omega.{arith}
-use lib.ListN.{length, drop, set, length-append, length-set}
-use lib.Seq.{sets, length-sets, sets-eq}
+use lib.ListN.{length, getD, take, drop, set, length-append, length-set, length-drop, take-append-drop}
+use lib.Seq.{sets, length-sets, sets-eq, drop-set-lt, drop-at, take-at, take-all, take-add, take-suc, length-take-le}
 use Rattle.sets.specs.Stores.{eachOf, onto, stored}
 
 -- ---- one store, and then others
@@ -82,6 +82,48 @@ unfolding stored
 stored-onto old bytes h =
     let e : 0 + length bytes ≡ length bytes = omega arith in
     sets-eq bytes old 0 (omega arith) ∙ ap (λ (k : ℕ). bytes ++ drop k old) e
+
+-- ---- what stands in a buffer after a store
+
+-- behind the bytes nothing changed
+pub behind-stored : (xs old : List ℕ) (p q : ℕ) → p + length xs ≤ q → drop q (stored old p xs) ≡ drop q old
+unfolding stored
+behind-stored [] old p q h = refl
+behind-stored (x ∷ xs) old p q h =
+    behind-stored xs (set old p x) (suc p) q (omega (arith, h)) ∙ drop-set-lt q old p x (omega (arith, h))
+
+-- the bytes are read where they were stored
+pub read-stored : (old : List ℕ) (p : ℕ) (xs : List ℕ) → p + length xs ≤ length old → take (length xs) (drop p (stored old p xs)) ≡ xs
+unfolding stored
+read-stored old p xs h =
+    ap (λ (l : List ℕ). take (length xs) (drop p l)) (sets-eq xs old p h ∙ append-assoc (take p old) xs (drop (p + length xs) old))
+    ∙ ap (take (length xs)) (drop-at (take p old) (xs ++ drop (p + length xs) old) p (length-take-le p old (omega (arith, h))))
+    ∙ take-at xs (drop (p + length xs) old) (length xs) refl
+
+-- to store what stands there changes nothing
+pub stored-there : (old : List ℕ) (p n : ℕ) → p + n ≤ length old → old ≡ stored old p (take n (drop p old))
+unfolding stored
+stored-there old p n h =
+    let k : length (take n (drop p old)) ≡ n = length-take-le n (drop p old) (omega (arith, length-drop p old)) in
+    sym (sets-eq (take n (drop p old)) old p (omega (arith, k))
+    ∙ ap (λ (i : ℕ). take p old ++ take n (drop p old) ++ drop (p + i) old) k
+    ∙ ap (λ (l : List ℕ). l ++ drop (p + n) old) (sym (take-add p n old))
+    ∙ take-append-drop (p + n) old)
+
+-- ---- a list byte by byte
+
+-- a turn of a loop that stores a list
+pub store-turn : (old now xs : List ℕ) (p i x d : ℕ) → i < length xs → now ≡ stored old p (take i xs) → x ≡ getD xs i d
+    → set now (p + i) x ≡ stored old p (take (i + 1) xs)
+unfolding stored
+store-turn old now xs p i x d l e f =
+    let k : p + i ≡ p + length (take i xs) = ap (λ (j : ℕ). p + j) (sym (length-take-le i xs (omega arith))) in
+    stored-more old now (set now (p + i) x) (take i xs) (x ∷ []) p (p + i) e refl k
+    ∙ ap (stored old p) (ap (λ (y : ℕ). take i xs ++ (y ∷ [])) f ∙ sym (take-suc xs i d l) ∙ ap (λ (j : ℕ). take j xs) (sym (add-one i)))
+
+-- and its end
+pub store-end : (old now xs : List ℕ) (p i : ℕ) → length xs ≤ i → now ≡ stored old p (take i xs) → now ≡ stored old p xs
+store-end old now xs p i l e = e ∙ ap (stored old p) (take-all i xs l)
 
 -- ---- the same number of bytes for each
 

@@ -6,11 +6,12 @@ use native.Mathlib.Omega.{arith}
 use borrow.Author.Tests.{lt-ltb, le-ltb, le-leb, lt-leb}
 use lib.ListN.{length, take, drop, replicate, length-append, length-drop, length-replicate}
 use lib.Seq.{length-take-le}
-use Rattle.sets.specs.Stores.{stored}
-use Rattle.sets.proofs.Stores.{length-stored, behind-stored, read-stored, stored-there, stored-more}
+use Rattle.sets.specs.Stores.{joined, stored}
+use Rattle.sets.proofs.Pieces.{Each, length-joined}
+use Rattle.sets.proofs.Stores.{length-stored, behind-stored, read-stored, stored-there, stored-over, stored-more}
 use Rattle.blocks.specs.Blocks.{blocks}
 use Rattle.blocks.specs.Checks.{checkOf}
-use Rattle.blocks.specs.Made.{twoBytes, fourBytes, bodyOf, checked, withRecord, recordsIn, sealed}
+use Rattle.blocks.specs.Made.{twoBytes, fourBytes, bodyOf, checked, bodyWith, blockWith, withRecord, recordsIn, sealed}
 
 -- what a block is closed with has 508 bytes
 length-body : (b kind used : ℕ) (bytes : List ℕ) → used ≤ 42 → length bytes ≡ 12 * used → length (bodyOf b kind used bytes) ≡ 508
@@ -85,3 +86,21 @@ module _ (old : List ℕ) (b kind used : ℕ) where
   pub seal-many : b < blocks old → b < 65536 → 42 < used → old ≡ sealed old b kind used
   unfolding sealed
   seal-many l h f = rw (lt-ltb b (blocks old) l, lt-ltb b 65536 h, lt-leb used 42 f)
+
+-- a block into which records were put, and which is closed, is the block made of them
+pub seal-made : (base now : List ℕ) (b kind : ℕ) (rs : List (List ℕ)) → length rs ≤ 42 → Each 12 rs → b * 512 + 512 ≤ length base → b < 65536
+    → now ≡ stored base (b * 512 + 4) (joined rs) → sealed now b kind (length rs) ≡ stored base (b * 512) (blockWith b kind rs)
+unfolding blockWith bodyWith
+seal-made base now b kind rs few twelve whole small e =
+    let size = length-joined 12 rs twelve in
+    let n : length now ≡ length base = ap length e ∙ length-stored base (b * 512 + 4) (joined rs) in
+    let read : recordsIn now b (length rs) ≡ joined rs =
+    ap (λ (k : ℕ). take k (drop (b * 512 + 4) now)) (let h : 12 * length rs ≡ length (joined rs) = omega (arith, size) in h)
+    ∙ ap (λ (l : List ℕ). take (length (joined rs)) (drop (b * 512 + 4) l)) e
+    ∙ read-stored base (b * 512 + 4) (joined rs) (omega (arith, size)) in
+    let block : List ℕ = checked (bodyOf b kind (length rs) (joined rs)) in
+    let long : length block ≡ 512 = omega (arith, length-append (bodyOf b kind (length rs) (joined rs)) (fourBytes (checkOf (bodyOf b kind (length rs) (joined rs)))), length-body b kind (length rs) (joined rs) few (omega (arith, size))) in
+    sym (seal-there now b kind (length rs) (omega arith) small few)
+    ∙ ap (λ (r : List ℕ). stored now (b * 512) (checked (bodyOf b kind (length rs) r))) read
+    ∙ ap (λ (l : List ℕ). stored l (b * 512) block) e
+    ∙ stored-over base (joined rs) block (b * 512 + 4) (b * 512) (omega arith) (omega (arith, size)) (omega arith)

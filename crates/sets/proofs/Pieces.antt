@@ -1,19 +1,20 @@
 -- Laws of lists cut into parts of one length and of pieces joined, of runs of bytes, and of sums and counts.
-use mathlib.Core.Path.{_≡_, refl, sym, _∙_}
+use mathlib.Core.Path.{_≡_, refl, sym, ap, _∙_}
 use mathlib.Core.Bool.{Bool, true, false, not, cond}
-use mathlib.Core.List.{List, [], _∷_, _++_, append-assoc}
+use mathlib.Core.List.{List, [], _∷_, _++_, append-assoc, append-nil}
 use Prim.Native.Nat.{ℕ, zero, suc, _+_, _-_, _*_, _≤_, _<_, min}
 use native.Mathlib.Nat.{not-suc-le-zero, zero-mul}
+use native.Mathlib.Numerals.{add-one}
 use native.Mathlib.Omega.{arith}
 use borrow.Author.Tests.{ltb-true, ltb-false, lt-ltb, le-ltb, leb-true, leb-false, eq-eqb}
 use lib.Dec.{ltb, leb}
 use lib.ListN.{length, getD, take, drop, replicate, length-append, length-take, length-drop, length-replicate, getD-replicate}
 use lib.Seq.{take-at, drop-at, drop-drop, getD-take, getD-drop}
-use Rattle.sets.specs.Below.{sumBelow, countBelow}
+use Rattle.sets.specs.Below.{sumBelow, countBelow, tableFrom, table}
 use Rattle.sets.specs.Tests.{allZero}
-use Rattle.sets.proofs.Below.{all-by}
+use Rattle.sets.proofs.Below.{all-by, table-more}
 use Rattle.sets.proofs.Bytes.{Bytes, none, append-bytes}
-use Rattle.sets.specs.Stores.{joined}
+use Rattle.sets.specs.Stores.{joined, eachOf}
 
 -- ---- parts
 
@@ -27,6 +28,25 @@ module _ {A : Type 0} (n : ℕ) (l : List A) (q : ℕ) where
 
   pub part-at : (d : A) (i : ℕ) → i < length (part n l q) → getD (part n l q) i d ≡ getD l (q * n + i) d
   part-at d i h = let k : i < n = omega (arith, length-part) in rw (getD-take, getD-drop)
+
+-- ---- one run out of many
+
+pub joined-append : (ps qs : List (List ℕ)) → joined (ps ++ qs) ≡ joined ps ++ joined qs
+unfolding joined
+joined-append [] qs = refl
+joined-append (p ∷ ps) qs = ap (λ (t : List ℕ). p ++ t) (joined-append ps qs) ∙ sym (append-assoc p (joined ps) (joined qs))
+
+-- with one piece more
+pub joined-more : (ps : List (List ℕ)) (p : List ℕ) → joined (ps ++ (p ∷ [])) ≡ joined ps ++ p
+unfolding joined
+joined-more ps p = joined-append ps (p ∷ []) ∙ ap (λ (t : List ℕ). joined ps ++ t) (append-nil p)
+
+-- a table, joined
+pub joined-table : (f : ℕ → List ℕ) (n : ℕ) → joined (table f n) ≡ eachOf f n
+unfolding joined eachOf tableFrom
+joined-table f zero = refl
+joined-table f (suc n) =
+    ap joined (ap (table f) (sym (add-one n)) ∙ table-more f n) ∙ joined-more (table f n) (f n) ∙ ap (λ (t : List ℕ). t ++ f n) (joined-table f n)
 
 -- ---- equal pieces
 

@@ -1,12 +1,12 @@
 -- Laws of bytes that are stored one after the other.
 use mathlib.Core.Path.{_≡_, refl, sym, ap, subst, _∙_}
-use mathlib.Core.List.{List, [], _∷_, _++_, append-assoc}
+use mathlib.Core.List.{List, [], _∷_, _++_, append-assoc, append-nil}
 use Prim.Native.Nat.{ℕ, zero, suc, _+_, _*_, _≤_, _<_}
 use native.Mathlib.Nat.{add-zero, add-suc, suc-add}
 use native.Mathlib.Numerals.{add-one}
 use native.Mathlib.Omega.{arith}
 use lib.ListN.{length, getD, take, drop, set, length-append, length-set, length-drop, take-append-drop}
-use lib.Seq.{sets, length-sets, sets-eq, drop-set-lt, drop-at, take-at, take-all, take-add, take-suc, length-take-le}
+use lib.Seq.{sets, length-sets, sets-eq, drop-set-lt, take-set-le, drop-at, take-at, take-all, take-add, take-suc, length-take-le}
 use Rattle.sets.specs.Stores.{eachOf, onto, stored}
 
 -- ---- one store, and then others
@@ -92,6 +92,12 @@ behind-stored [] old p q h = refl
 behind-stored (x ∷ xs) old p q h =
     behind-stored xs (set old p x) (suc p) q (omega (arith, h)) ∙ drop-set-lt q old p x (omega (arith, h))
 
+-- and before them
+pub before-stored : (xs old : List ℕ) (p q : ℕ) → q ≤ p → take q (stored old p xs) ≡ take q old
+unfolding stored
+before-stored [] old p q h = refl
+before-stored (x ∷ xs) old p q h = before-stored xs (set old p x) (suc p) q (omega (arith, h)) ∙ take-set-le q old p x h
+
 -- the bytes are read where they were stored
 pub read-stored : (old : List ℕ) (p : ℕ) (xs : List ℕ) → p + length xs ≤ length old → take (length xs) (drop p (stored old p xs)) ≡ xs
 unfolding stored
@@ -109,6 +115,17 @@ stored-there old p n h =
     ∙ ap (λ (i : ℕ). take p old ++ take n (drop p old) ++ drop (p + i) old) k
     ∙ ap (λ (l : List ℕ). l ++ drop (p + n) old) (sym (take-add p n old))
     ∙ take-append-drop (p + n) old)
+
+-- what is stored over is gone
+pub stored-over : (old xs ys : List ℕ) (p q : ℕ) → q ≤ p → p + length xs ≤ q + length ys → q + length ys ≤ length old
+    → stored (stored old p xs) q ys ≡ stored old q ys
+unfolding stored
+stored-over old xs ys p q l h room =
+    let mid = stored old p xs in
+    sets-eq ys mid q (omega (arith, length-stored old p xs))
+    ∙ ap (λ (t : List ℕ). t ++ ys ++ drop (q + length ys) mid) (before-stored xs old p q l)
+    ∙ ap (λ (t : List ℕ). take q old ++ ys ++ t) (behind-stored xs old p (q + length ys) h)
+    ∙ sym (sets-eq ys old q room)
 
 -- ---- a list byte by byte
 
@@ -143,6 +160,21 @@ module _ (f : ℕ → List ℕ) (size : ℕ) (each : (i : ℕ) → length (f i) 
   unfolding eachOf
   each-turn old now next p q i h e g =
       rw add-one (stored-more old now next (eachOf f i) (f i) p q e g (h ∙ ap (λ (k : ℕ). p + k) (sym (length-each i))))
+
+-- the same for each
+pub each-same : (f g : ℕ → List ℕ) (n : ℕ) → ((i : ℕ) → i < n → f i ≡ g i) → eachOf f n ≡ eachOf g n
+unfolding eachOf
+each-same f g zero h = refl
+each-same f g (suc n) h = rw (each-same f g n (λ i l. h i (omega arith)), h n (omega arith))
+
+-- the first m, then n more
+pub each-add : (f : ℕ → List ℕ) (m n : ℕ) → eachOf f (m + n) ≡ eachOf f m ++ eachOf (λ i. f (m + i)) n
+unfolding eachOf
+each-add f m zero = ap (eachOf f) (add-zero m) ∙ sym (append-nil (eachOf f m))
+each-add f m (suc n) =
+    ap (eachOf f) (add-suc m n)
+    ∙ ap (λ (t : List ℕ). t ++ f (m + n)) (each-add f m n)
+    ∙ append-assoc (eachOf f m) (eachOf (λ i. f (m + i)) n) (f (m + n))
 
 pub each-end : (f : ℕ → List ℕ) (old now : List ℕ) (p i n : ℕ) → i ≤ n → n ≤ i → now ≡ stored old p (eachOf f i) → now ≡ stored old p (eachOf f n)
 each-end f old now p i n l g e = let k : i ≡ n = omega arith in e ∙ ap (λ (j : ℕ). stored old p (eachOf f j)) k

@@ -6,6 +6,8 @@ pub mod Loads
 pub mod One
 pub mod Worked
 pub mod Ordered
+pub mod Told
 pub mod Stacked
+pub mod SameFile
 pub mod Shown
 pub mod Five

@@ -42,7 +42,7 @@ countEqual f n v = countBelow (λ i. eqb (f i) v) n
 less-none : (f : ℕ → ℕ) (n : ℕ) → countLess f n 0 ≡ 0
 less-none f n = count-is (λ i. ltb (f i) 0) 0 n (omega arith) (λ i l. le-ltb (f i) 0 (omega arith) ∙ sym (le-ltb i 0 (omega arith)))
 
-less-more : (f : ℕ → ℕ) (n v : ℕ) → countLess f n v + countEqual f n v ≡ countLess f n (suc v)
+pub less-more : (f : ℕ → ℕ) (n v : ℕ) → countLess f n v + countEqual f n v ≡ countLess f n (suc v)
 unfolding countBelow
 less-more f n v = sym (sum-both (λ i. cond (ltb (f i) v) 1 0) (λ i. cond (eqb (f i) v) 1 0) n) ∙ sum-same _ _ n (λ i l. one (f i) (ltb (f i) v) refl (eqb (f i) v) refl)
   where

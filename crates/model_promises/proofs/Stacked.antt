@@ -6,7 +6,7 @@ use Prim.Native.Nat.{ℕ, zero, suc, _+_, _-_, _*_, _/_, _%_, _≤_, _<_}
 use native.Mathlib.Numerals.{add-one}
 use native.Mathlib.Omega.{arith}
 use borrow.Author.Tests.{ltb-true, ltb-false, lt-ltb, le-ltb, leb-true, eqb-true, eq-eqb, ne-eqb}
-use lib.Dec.{ltb, eqb}
+use lib.Dec.{ltb, leb, eqb}
 use lib.ListN.{length, getD, drop, length-take, length-drop}
 use Rattle.sets.specs.Below.{sumBelow}
 use Rattle.sets.specs.Groups.{placeIn}
@@ -14,24 +14,26 @@ use Rattle.sets.specs.Tests.{within, allZero}
 use Rattle.sets.proofs.Tests.{Within, within-is, and-both, not-both}
 use Rattle.sets.proofs.Below.{all-each}
 use Rattle.sets.proofs.Groups.{spot}
-use Rattle.blocks.specs.Blocks.{blocks, blockOf, numberIn, usedIn, bodyIn, roomRight, kindOf, usedOf, recordIn, recordOf, firstBlock, countOf, recordFrom, recordNo}
+use Rattle.blocks.specs.Blocks.{blocks, blockOf, usedIn, roomRight, kindOf, usedOf, recordIn, recordOf, firstBlock, countOf, recordFrom, recordNo}
 use Rattle.blocks.proofs.BlockLaws.{block-length, record-here}
 use Rattle.model.specs.Decoded.{subjectsIn}
 use Rattle.model.specs.Records.{fullKey, orderOf}
 use Rattle.model.specs.Stages.{lengthRight, kindRight, fullRight, blockRight, recordBefore, headerRight, fieldsRight, recordRight}
 use Rattle.model_promises.specs.Loads.{Passes1, Passes3, Passes4}
+use Rattle.model_promises.proofs.Told.{Room, room}
 use Rattle.model_promises.proofs.Ordered.{countLess, never-falls, less-first}
 use Rattle.model.proofs.Pieces.{sum-is}
 
--- ---- blocks whose kinds never fall, each full but the last of its kind
+-- ---- blocks whose kinds never fall, none empty, each full but the last of its kind
 
 pub record Stacked (kind used : ℕ → ℕ) (n : ℕ) : Type 0 where
+  pub some : (b : ℕ) → b < n → 1 ≤ used b
   pub few : (b : ℕ) → b < n → used b ≤ 42
   pub rises : (b : ℕ) → suc b < n → kind b ≤ kind (suc b)
   pub full : (b : ℕ) → suc b < n → kind (suc b) ≡ kind b → used b ≡ 42
 
 -- how many records of kind k block b has
-abbrev ofKind : (ℕ → ℕ) → (ℕ → ℕ) → ℕ → ℕ → ℕ
+abbrev pub ofKind : (ℕ → ℕ) → (ℕ → ℕ) → ℕ → ℕ → ℕ
 ofKind kind used k b = cond (eqb (kind b) k) (used b) 0
 
 -- record j of kind k is record i of block b
@@ -52,7 +54,7 @@ module _ {kind used : ℕ → ℕ} {n : ℕ} (s : Stacked kind used n) (k : ℕ)
       omega (arith, never-falls kind n (s .rises) c b l h)
 
   -- before a block of kind k: 42 records in each block of the kind
-  before : (b : ℕ) → b < n → kind b ≡ k → sumBelow (ofKind kind used k) b ≡ (b - countLess kind n k) * 42
+  pub before : (b : ℕ) → b < n → kind b ≡ k → sumBelow (ofKind kind used k) b ≡ (b - countLess kind n k) * 42
   before b h e = sum-is _ (λ c. (c - countLess kind n k) * 42) b (omega arith) (λ c l. go c l (ltb c (countLess kind n k)) refl)
     where
       go : (c : ℕ) → c < b → (t : Bool) → ltb c (countLess kind n k) ≡ t → (c - countLess kind n k) * 42 + ofKind kind used k c ≡ (suc c - countLess kind n k) * 42
@@ -84,19 +86,15 @@ module _ {kind used : ℕ → ℕ} {n : ℕ} (s : Stacked kind used n) (k : ℕ)
 
 -- ---- what stage 3 says of a block
 
-used-within : (b : ℕ) (block : List ℕ) → roomRight b block ≡ true → Within 1 (usedIn block) 42
-unfolding roomRight
-used-within b block h =
-    let c = and-both _ (allZero (drop (4 + 12 * usedIn block) (bodyIn block))) h in
-    within-is 1 (usedIn block) 42 (and-both (eqb (numberIn block) b) _ (c .left) .right)
-
-first-kind : (before kind : ℕ) → kindRight 0 before kind ≡ true → kind ≡ 1
+pub first-kind : (before kind : ℕ) → kindRight 0 before kind ≡ true → kind ≡ 1
 unfolding kindRight
 first-kind before kind h = eqb-true kind 1 h
 
-later-kind : (b before kind : ℕ) → kindRight (suc b) before kind ≡ true → before ≤ kind
+pub later-kind : (b before kind : ℕ) → kindRight (suc b) before kind ≡ true → Within 2 kind 4 × (before ≤ kind)
 unfolding kindRight
-later-kind b before kind h = leb-true before kind (and-both (within 2 kind 4) _ (rw (ne-eqb (suc b) 0 (λ e. omega arith)) at h) .right)
+later-kind b before kind h =
+    let c = and-both (within 2 kind 4) (leb before kind) (rw (ne-eqb (suc b) 0 (λ e. omega arith)) at h) in
+    (within-is 2 kind 4 (c .left), leb-true before kind (c .right))
 
 full-used : (used kind after : ℕ) → fullRight used kind after ≡ true → after ≡ kind → used ≡ 42
 unfolding fullRight
@@ -107,18 +105,18 @@ full-used used kind after h e = go (eqb used 42) refl
     go false t = not-both (rw (t, eq-eqb after kind e) at h) refl
 
 -- the three parts of stage 3
-record Parts (file : List ℕ) (b : ℕ) : Type 0 where
-  used : Within 1 (usedOf file b) 42
-  kind : kindRight b (kindOf file (b - 1)) (kindOf file b) ≡ true
-  full : kindOf file (b + 1) ≡ kindOf file b → usedOf file b ≡ 42
+pub record Parts (file : List ℕ) (b : ℕ) : Type 0 where
+  pub room : Room b (blockOf file b)
+  pub kind : kindRight b (kindOf file (b - 1)) (kindOf file b) ≡ true
+  pub full : kindOf file (b + 1) ≡ kindOf file b → usedOf file b ≡ 42
 
-parts : (file : List ℕ) (b : ℕ) → blockRight file b ≡ true → Parts file b
+pub parts : (file : List ℕ) (b : ℕ) → blockRight file b ≡ true → Parts file b
 unfolding blockRight
 parts file b h =
     let d = and-both (roomRight b (blockOf file b) && kindRight b (kindOf file (b - 1)) (kindOf file b)) _ h in
     let c = and-both (roomRight b (blockOf file b)) _ (d .left) in
     record {
-      used = used-within b (blockOf file b) (c .left);
+      room = room b (blockOf file b) (c .left);
       kind = c .right;
       full = full-used (usedOf file b) (kindOf file b) (kindOf file (b + 1)) (d .right);
     }
@@ -159,17 +157,17 @@ unfolding orderOf
 key-climbs k r t l a b h = let c = rw (a, b, ne-eqb k 2 (λ e. omega arith)) at h in omega arith
 
 module _ (file : List ℕ) (p1 : Passes1 file) (p3 : Passes3 file) (p4 : Passes4 file) where
-  some-block : 0 < blocks file
+  pub some-block : 0 < blocks file
   unfolding lengthRight
   some-block = within-is 1 (blocks file) 43 (and-both (eqb (length file % 512) 0) _ p1 .right) .low
 
   -- the header is block 0
-  header : (i : ℕ) → i < usedOf file 0 → headerRight (usedOf file 0) i (recordOf file 0 i) ≡ true
+  pub header : (i : ℕ) → i < usedOf file 0 → headerRight (usedOf file 0) i (recordOf file 0 i) ≡ true
   header i l =
       header-is file 0 i (first-kind _ _ (parts file 0 (p3 0 some-block) .kind)) (all-each (recordRight file 0) (usedOf file 0) (p4 0 some-block) i l)
 
-  subjects-header : Within 1 (subjectsIn file) 16 × (usedOf file 0 ≡ subjectsIn file + 1)
-  subjects-header = header-subjects (usedOf file 0) (recordOf file 0 0) (header 0 (parts file 0 (p3 0 some-block) .used .low))
+  pub subjects-header : Within 1 (subjectsIn file) 16 × (usedOf file 0 ≡ subjectsIn file + 1)
+  subjects-header = header-subjects (usedOf file 0) (recordOf file 0 0) (header 0 (parts file 0 (p3 0 some-block) .room .used .low))
 
   pub subjects-within : Within 1 (subjectsIn file) 16
   subjects-within = subjects-header .0
@@ -177,33 +175,34 @@ module _ (file : List ℕ) (p1 : Passes1 file) (p3 : Passes3 file) (p4 : Passes4
   pub states-within : (s : ℕ) → s < subjectsIn file → Within 1 (getD (recordOf file 0 (s + 1)) 1 0) 32
   states-within s l = header-states (usedOf file 0) s (recordOf file 0 (s + 1)) (header (s + 1) (omega (arith, subjects-header .1)))
 
-  stacked : Stacked (kindOf file) (usedOf file) (blocks file)
+  pub stacked : Stacked (kindOf file) (usedOf file) (blocks file)
   stacked =
       record {
-        few = λ b l. parts file b (p3 b l) .used .high;
-        rises = λ b l. later-kind b (kindOf file b) (kindOf file (suc b)) (rw (let e : suc b - 1 ≡ b = omega arith in e) at (parts file (suc b) (p3 (suc b) l) .kind));
+        some = λ b l. parts file b (p3 b l) .room .used .low;
+        few = λ b l. parts file b (p3 b l) .room .used .high;
+        rises = λ b l. later-kind b (kindOf file b) (kindOf file (suc b)) (rw (let e : suc b - 1 ≡ b = omega arith in e) at (parts file (suc b) (p3 (suc b) l) .kind)) .1;
         full = λ b l e. parts file b (p3 b (omega arith)) .full (ap (kindOf file) (add-one b) ∙ e);
       }
 
   -- where record j of kind k stands
-  abbrev Stands : ℕ → ℕ → Type 0
+  abbrev pub Stands : ℕ → ℕ → Type 0
   Stands k j = Stand (kindOf file) (usedOf file) (blocks file) k j
 
-  stands : (k j : ℕ) → j < countOf file k → Stands k j
+  pub stands : (k j : ℕ) → j < countOf file k → Stands k j
   unfolding countOf
   stands k j l = stand stacked k j l
 
-  abbrev first : ℕ → ℕ
+  abbrev pub first : ℕ → ℕ
   first k = countLess (kindOf file) (blocks file) k
 
-  no-is : (k j b i : ℕ) → first k ≤ b → (b - first k) * 42 + i ≡ j → i < 42 → recordNo file k j ≡ recordOf file b i
+  pub no-is : (k j b i : ℕ) → first k ≤ b → (b - first k) * 42 + i ≡ j → i < 42 → recordNo file k j ≡ recordOf file b i
   unfolding recordFrom firstBlock
   no-is k j b i l e h =
       let a : first k + j / 42 ≡ b = omega arith in
       let c : j % 42 ≡ i = omega arith in
       rw (a, c)
 
-  here : (k j : ℕ) (s : Stands k j) → recordNo file k j ≡ recordOf file (s .b) (s .i)
+  pub here : (k j : ℕ) (s : Stands k j) → recordNo file k j ≡ recordOf file (s .b) (s .i)
   here k j s = no-is k j (s .b) (s .i) (s .start) (s .place) (omega (arith, s .inside, stacked .few (s .b) (s .there)))
 
   -- the record before record j + 1 is record j
@@ -228,7 +227,7 @@ module _ (file : List ℕ) (p1 : Passes1 file) (p3 : Passes3 file) (p4 : Passes4
   pub fields-right : (k j : ℕ) → 2 ≤ k → j < countOf file k → fieldsRight file k (recordNo file k j) ≡ true
   fields-right k j l h = let s = stands k j h in rw (here k j s) (stage-four k j l s .1)
 
-  twelve : (k j : ℕ) → j < countOf file k → length (recordNo file k j) ≡ 12
+  pub twelve : (k j : ℕ) → j < countOf file k → length (recordNo file k j) ≡ 12
   unfolding recordOf
   twelve k j h =
       let s = stands k j h in

@@ -10,4 +10,5 @@ pub mod Told
 pub mod Stacked
 pub mod SameFile
 pub mod Shown
+pub mod Again
 pub mod Five

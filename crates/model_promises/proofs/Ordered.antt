@@ -54,6 +54,10 @@ less-more f n v = sym (sum-both (λ i. cond (ltb (f i) v) 1 0) (λ i. cond (eqb 
         let apart = eqb-false x v d in
         rw (e, d, le-ltb x (suc v) (omega (arith, ltb-false x v e)))
 
+-- so many are below v: those that are 0, 1, .. v - 1
+pub less-sum : (f : ℕ → ℕ) (n v : ℕ) → sumBelow (countEqual f n) v ≡ countLess f n v
+less-sum f n v = sum-is (countEqual f n) (countLess f n) v (less-none f n) (λ i _. less-more f n i)
+
 module _ (f : ℕ → ℕ) (n : ℕ) (rises : (i : ℕ) → suc i < n → f i ≤ f (suc i)) where
   -- a later number is not smaller
   pub never-falls : (i j : ℕ) → i ≤ j → j < n → f i ≤ f j
@@ -68,7 +72,7 @@ module _ (f : ℕ → ℕ) (n : ℕ) (rises : (i : ℕ) → suc i < n → f i �
   -- the k-th v stands behind all smaller numbers and k more of its own
   pub own-place : (v k : ℕ) → k < countEqual f n v → (sumBelow (countEqual f n) v + k < n) × (f (sumBelow (countEqual f n) v + k) ≡ v)
   own-place v k l =
-      let s = sum-is (countEqual f n) (countLess f n) v (less-none f n) (λ i _. less-more f n i) in
+      let s = less-sum f n v in
       let j = sumBelow (countEqual f n) v + k in
       let h : j < n = omega (arith, less-more f n v, count-bound (λ i. ltb (f i) (suc v)) n) in
       let a = ltb-true (f j) (suc v) (less-first (suc v) j h ∙ lt-ltb j (countLess f n (suc v)) (omega (arith, less-more f n v))) in

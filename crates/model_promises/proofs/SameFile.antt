@@ -151,7 +151,7 @@ module _ (file : List ℕ) (p : Passed file) where
   used-at k b l e = used-is stack k b l e
 
   -- which they are
-  record-at : (k b i : ℕ) → b < blocks file → kindOf file b ≡ k → i < usedOf file b
+  pub record-at : (k b i : ℕ) → b < blocks file → kindOf file b ≡ k → i < usedOf file b
       → ((b - firstBlock file k) * 42 + i < countOf file k) × (recordNo file k ((b - firstBlock file k) * 42 + i) ≡ recordOf file b i)
   unfolding firstBlock countOf
   record-at k b i l e h =

@@ -133,11 +133,20 @@ header-subjects used r h =
     let c = and-both (within 1 (getD r 0 0) 16) (eqb used (getD r 0 0 + 1)) (and-both _ (allZero (drop 3 r)) h .left) in
     (within-is 1 (getD r 0 0) 16 (c .left), eqb-true _ _ (c .right))
 
-header-states : (used s : ℕ) (r : List ℕ) → headerRight used (s + 1) r ≡ true → Within 1 (getD r 1 0) 32
+header-states : (used s : ℕ) (r : List ℕ) → headerRight used (s + 1) r ≡ true → (getD r 0 0 ≡ s) × Within 1 (getD r 1 0) 32
 unfolding headerRight
 header-states used s r h =
     let c = and-both (eqb (getD r 0 0 + 1) (s + 1) && within 1 (getD r 1 0) 32) (allZero (drop 3 r)) (rw (ne-eqb (s + 1) 0 (λ e. omega arith)) at h) in
-    within-is 1 (getD r 1 0) 32 (and-both (eqb (getD r 0 0 + 1) (s + 1)) _ (c .left) .right)
+    let d = and-both (eqb (getD r 0 0 + 1) (s + 1)) (within 1 (getD r 1 0) 32) (c .left) in
+    (omega (arith, eqb-true (getD r 0 0 + 1) (s + 1) (d .left)), within-is 1 (getD r 1 0) 32 (d .right))
+
+header-zeros : (used i : ℕ) (r : List ℕ) → headerRight used i r ≡ true → allZero (drop 3 r) ≡ true
+unfolding headerRight
+header-zeros used i r h =
+    and-both
+    (cond (eqb i 0) (within 1 (getD r 0 0) 16 && eqb used (getD r 0 0 + 1)) (eqb (getD r 0 0 + 1) i && within 1 (getD r 1 0) 32))
+    (allZero (drop 3 r))
+    h .right
 
 later-is : (file : List ℕ) (b i k : ℕ) → kindOf file b ≡ k → 2 ≤ k → recordRight file b i ≡ true
     → (orderOf k (recordBefore file b i) < orderOf k (recordOf file b i)) × (fieldsRight file k (recordOf file b i) ≡ true)
@@ -162,18 +171,27 @@ module _ (file : List ℕ) (p1 : Passes1 file) (p3 : Passes3 file) (p4 : Passes4
   some-block = within-is 1 (blocks file) 43 (and-both (eqb (length file % 512) 0) _ p1 .right) .low
 
   -- the header is block 0
-  pub header : (i : ℕ) → i < usedOf file 0 → headerRight (usedOf file 0) i (recordOf file 0 i) ≡ true
+  header : (i : ℕ) → i < usedOf file 0 → headerRight (usedOf file 0) i (recordOf file 0 i) ≡ true
   header i l =
       header-is file 0 i (first-kind _ _ (parts file 0 (p3 0 some-block) .kind)) (all-each (recordRight file 0) (usedOf file 0) (p4 0 some-block) i l)
 
   pub subjects-header : Within 1 (subjectsIn file) 16 × (usedOf file 0 ≡ subjectsIn file + 1)
   subjects-header = header-subjects (usedOf file 0) (recordOf file 0 0) (header 0 (parts file 0 (p3 0 some-block) .room .used .low))
 
+  subject-header : (s : ℕ) → s < subjectsIn file → (getD (recordOf file 0 (s + 1)) 0 0 ≡ s) × Within 1 (getD (recordOf file 0 (s + 1)) 1 0) 32
+  subject-header s l = header-states (usedOf file 0) s (recordOf file 0 (s + 1)) (header (s + 1) (omega (arith, subjects-header .1)))
+
+  pub header-names : (s : ℕ) → s < subjectsIn file → getD (recordOf file 0 (s + 1)) 0 0 ≡ s
+  header-names s l = subject-header s l .0
+
+  pub header-rest : (i : ℕ) → i ≤ subjectsIn file → allZero (drop 3 (recordOf file 0 i)) ≡ true
+  header-rest i l = header-zeros (usedOf file 0) i (recordOf file 0 i) (header i (omega (arith, subjects-header .1)))
+
   pub subjects-within : Within 1 (subjectsIn file) 16
   subjects-within = subjects-header .0
 
   pub states-within : (s : ℕ) → s < subjectsIn file → Within 1 (getD (recordOf file 0 (s + 1)) 1 0) 32
-  states-within s l = header-states (usedOf file 0) s (recordOf file 0 (s + 1)) (header (s + 1) (omega (arith, subjects-header .1)))
+  states-within s l = subject-header s l .1
 
   pub stacked : Stacked (kindOf file) (usedOf file) (blocks file)
   stacked =

@@ -83,6 +83,11 @@ module _ (r : List ℕ) (t : Twelve r) where
 
 -- ---- the records of each kind
 
+-- the file has the records of the model, kind by kind and in order
+pub record Made (file : List ℕ) (m : Model) : Type 0 where
+  pub counts : (k : ℕ) → 1 ≤ k → k ≤ 4 → countOf file k ≡ length (recordsOf m k)
+  pub records : (k j : ℕ) → 1 ≤ k → k ≤ 4 → j < countOf file k → recordNo file k j ≡ getD (recordsOf m k) j []
+
 -- a line, told by what stands at each place; `mine` are the same counts
 line-is : {A : Type 0} (count mine : ℕ → ℕ) (item : ℕ → ℕ → A) (n : ℕ) (f : ℕ → A) (d : A) → ((g : ℕ) → g < n → mine g ≡ count g)
     → ((g k : ℕ) → g < n → k < mine g → f (placeIn mine g k) ≡ item g k) → (j : ℕ) → j < sumBelow mine n → f j ≡ getD (lined count item n) j d
@@ -100,6 +105,10 @@ module _ (file : List ℕ) (bytes : AreBytes file) (p : Passed file) (pl : Place
 
   abbrev n : ℕ
   n = subjectsIn file
+
+  subjects-are : m .n ≡ n
+  unfolding modelOf
+  subjects-are = refl
 
   few-subjects : n ≤ 16
   few-subjects = subjects-within file (p .one) (p .three) (p .four) .high
@@ -253,3 +262,37 @@ module _ (file : List ℕ) (bytes : AreBytes file) (p : Passed file) (pl : Place
           (sym (limit-again (recordNo file 4 (placeIn (rowsIn file) s k)) (a-twelve 4 (placeIn (rowsIn file) s k) (at .0)) s (at .1)
           (row-both file bytes (p .one) (p .three) (p .four) pl s k l h .right)))
       go false e = absurd (omega (arith, no-rows s (ltb-false s n e)))
+
+  -- ---- all of them
+
+  states-made : (j : ℕ) → j < countOf file 2 → recordNo file 2 j ≡ getD (stateRecords m) j []
+  unfolding stateRecords
+  states-made j h = line-is (statesOf m) (statesIn file) _ 16 (recordNo file 2) [] states-same state-made j (rw (pl .states) at h)
+
+  exits-made : (j : ℕ) → j < countOf file 3 → recordNo file 3 j ≡ getD (exitRecords m) j []
+  unfolding exitRecords
+  exits-made j h = line-is (exitsOf m) (exitsIn file) _ 512 (recordNo file 3) [] exits-same exit-made j (rw (pl .exits) at h)
+
+  limits-made : (j : ℕ) → j < countOf file 4 → recordNo file 4 j ≡ getD (limitRecords m) j []
+  unfolding limitRecords
+  limits-made j h = line-is (rowsOf m) (rowsIn file) _ 16 (recordNo file 4) [] rows-same limit-made j (rw count-limits at h)
+
+  pub made : Made file m
+  unfolding recordsOf
+  made = record { counts = counts; records = records }
+    where
+      counts : (k : ℕ) → 1 ≤ k → k ≤ 4 → countOf file k ≡ length (recordsOf m k)
+      counts zero lo hi = absurd (omega arith)
+      counts (suc zero) lo hi = count-headers ∙ ap suc (sym subjects-are) ∙ sym (length-headers m held good)
+      counts (suc (suc zero)) lo hi = pl .states ∙ sum-same (statesIn file) (statesOf m) 16 states-same ∙ sym (length-states m held good)
+      counts (suc (suc (suc zero))) lo hi = pl .exits ∙ sum-same (exitsIn file) (exitsOf m) 512 exits-same ∙ sym (length-exits m held good)
+      counts (suc (suc (suc (suc zero)))) lo hi = count-limits ∙ sum-same (rowsIn file) (rowsOf m) 16 rows-same ∙ sym (length-limits m held good)
+      counts (suc (suc (suc (suc (suc k))))) lo hi = absurd (omega arith)
+
+      records : (k j : ℕ) → 1 ≤ k → k ≤ 4 → j < countOf file k → recordNo file k j ≡ getD (recordsOf m k) j []
+      records zero j lo hi = absurd (omega arith)
+      records (suc zero) j lo hi = headers-made j
+      records (suc (suc zero)) j lo hi = states-made j
+      records (suc (suc (suc zero))) j lo hi = exits-made j
+      records (suc (suc (suc (suc zero)))) j lo hi = limits-made j
+      records (suc (suc (suc (suc (suc k))))) j lo hi = absurd (omega arith)

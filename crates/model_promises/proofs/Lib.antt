@@ -11,4 +11,5 @@ pub mod Stacked
 pub mod SameFile
 pub mod Shown
 pub mod Again
+pub mod OneFile
 pub mod Five

@@ -8,8 +8,8 @@ pub mod Worked
 pub mod Ordered
 pub mod Told
 pub mod Stacked
-pub mod SameFile
 pub mod Shown
+pub mod Five
+pub mod SameFile
 pub mod Again
 pub mod OneFile
-pub mod Five

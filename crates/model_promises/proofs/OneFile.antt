@@ -1,6 +1,5 @@
 -- One file for each model: a file of bytes that loads is the file of its model.
 use mathlib.Core.Path.{_≡_, sym, subst, _∙_}
-use mathlib.Core.Bool.{true}
 use mathlib.Core.List.{List}
 use Prim.Native.Nat.{ℕ}
 use Rattle.sets.proofs.Tests.{and-both}
@@ -22,7 +21,7 @@ loads-made file m bytes h =
     let l = loading file m h in
     let a = and-both (inPlace file) (valid (modelOf file)) (l .across) in
     let held = subst Held (l .model) (loads-held file m bytes h) in
-    subst (Made file) (sym (l .model)) (made file bytes (l .stages) (placed file (a .left)) held (model-good (modelOf file) (a .right)))
+    subst (Made file) (sym (l .model)) (made file bytes (l .stages .one) (l .stages .three) (l .stages .four) (placed file (a .left)) held (model-good (modelOf file) (a .right)))
 
 -- two files of bytes that load to one model are one file
 pub loads-once : (f g : List ℕ) (m : Model) → AreBytes f → AreBytes g → LoadsTo f m → LoadsTo g m → f ≡ g
@@ -43,6 +42,7 @@ loads-own file m bytes h =
     loads-once file (fileOf m) m bytes (own .0) h (own .1)
 
 pub one-file : OneFile
-one-file file m bytes held =
-    (λ h. (loads-valid file m h, loads-own file m bytes h),
-    λ v. subst (λ (s : List ℕ). LoadsTo s m) (sym (v .1)) (valid-loads m held (v .0) .1))
+one-file file m bytes held = (
+  λ h. (loads-valid file m h, loads-own file m bytes h),
+  λ v. subst (λ (s : List ℕ). LoadsTo s m) (sym (v .1)) (valid-loads m held (v .0) .1),
+)

@@ -9,14 +9,8 @@ use native.Mathlib.Omega.{arith}
 use borrow.Author.Tests.{ltb-true, ltb-false, lt-ltb, le-ltb, eqb-true, eqb-false}
 use lib.Dec.{ltb, eqb}
 use Rattle.sets.specs.Below.{sumBelow, countBelow}
-use Rattle.sets.proofs.Below.{last-or, count-miss, count-bound, sum-same}
+use Rattle.sets.proofs.Below.{last-or, count-miss, count-bound, sum-same, sum-plus}
 use Rattle.model.proofs.Pieces.{sum-is, count-is}
-
--- the sum of sums
-sum-both : (f g : ℕ → ℕ) (n : ℕ) → sumBelow (λ i. f i + g i) n ≡ sumBelow f n + sumBelow g n
-unfolding sumBelow
-sum-both f g zero = refl
-sum-both f g (suc n) = omega (arith, sum-both f g n)
 
 -- a test that holds at a number holds at all before it: so it holds at as many as it is counted at, from the first on
 front : (p : ℕ → Bool) (n : ℕ) → ((i j : ℕ) → i ≤ j → j < n → p j ≡ true → p i ≡ true) → (i : ℕ) → i < n → p i ≡ ltb i (countBelow p n)
@@ -44,7 +38,7 @@ less-none f n = count-is (λ i. ltb (f i) 0) 0 n (omega arith) (λ i l. le-ltb (
 
 pub less-more : (f : ℕ → ℕ) (n v : ℕ) → countLess f n v + countEqual f n v ≡ countLess f n (suc v)
 unfolding countBelow
-less-more f n v = sym (sum-both (λ i. cond (ltb (f i) v) 1 0) (λ i. cond (eqb (f i) v) 1 0) n) ∙ sum-same _ _ n (λ i l. one (f i) (ltb (f i) v) refl (eqb (f i) v) refl)
+less-more f n v = sym (sum-plus (λ i. cond (ltb (f i) v) 1 0) (λ i. cond (eqb (f i) v) 1 0) n) ∙ sum-same _ _ n (λ i l. one (f i) (ltb (f i) v) refl (eqb (f i) v) refl)
   where
     one : (x : ℕ) (b : Bool) → ltb x v ≡ b → (c : Bool) → eqb x v ≡ c → cond (ltb x v) 1 0 + cond (eqb x v) 1 0 ≡ cond (ltb x (suc v)) 1 0
     one x true e true d = absurd (omega (arith, ltb-true x v e, eqb-true x v d))

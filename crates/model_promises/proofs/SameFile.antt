@@ -7,12 +7,12 @@ use mathlib.Core.List.{List}
 use Prim.Native.Nat.{ℕ, zero, suc, _+_, _-_, _*_, _/_, _%_, _≤_, _<_, min}
 use native.Mathlib.Nat.{eq-or-lt-of-le}
 use native.Mathlib.Omega.{arith}
-use borrow.Author.Tests.{ltb-true, ltb-false, lt-ltb, le-ltb, eqb-true, eq-eqb}
+use borrow.Author.Tests.{ltb-true, ltb-false, lt-ltb, le-ltb, eqb-true}
 use lib.Dec.{ltb, eqb}
 use lib.ListN.{length, getD, drop}
 use lib.Seq.{getD-take, getD-drop, ext-getD}
 use Rattle.sets.specs.Below.{sumBelow}
-use Rattle.sets.proofs.Below.{sum-has, none-count, count-bound}
+use Rattle.sets.proofs.Below.{none-count, count-bound}
 use Rattle.sets.proofs.Bytes.{byte-at, bytes-by, take-bytes, drop-bytes}
 use Rattle.sets.proofs.Tests.{Within, and-both}
 use Rattle.blocks.specs.Blocks.{blocks, blockOf, kindOf, usedOf, recordOf, firstBlock, countOf, recordNo}
@@ -23,7 +23,7 @@ use Rattle.model.proofs.Pieces.{count-is}
 use Rattle.model_promises.specs.Loads.{AreBytes}
 use Rattle.model_promises.proofs.Loads.{Passed}
 use Rattle.model_promises.proofs.Ordered.{countLess, less-more, less-first}
-use Rattle.model_promises.proofs.Stacked.{Stacked, ofKind, Stand, before, stand, first-kind, later-kind, parts, stacked, no-is}
+use Rattle.model_promises.proofs.Stacked.{Stacked, ofKind, from-first, among, stand, first-kind, later-kind, parts, stacked, record-at}
 use Rattle.model_promises.proofs.Told.{Whole, same-block}
 
 -- ---- where the blocks of a kind stand, and how full they are
@@ -40,11 +40,9 @@ module _ {kind used : ℕ → ℕ} {n : ℕ} (s : Stacked kind used n) (k : ℕ)
   abbrev past : ℕ
   past = countLess kind n (suc k)
 
-  -- a block of the kind stands between
-  kind-from : (b : ℕ) → b < n → kind b ≡ k → (from ≤ b) × (b < past)
-  kind-from b h e =
-      (ltb-false b from (sym (less-first kind n (s .rises) k b h) ∙ le-ltb (kind b) k (omega arith)),
-      ltb-true b past (sym (less-first kind n (s .rises) (suc k) b h) ∙ lt-ltb (kind b) (suc k) (omega arith)))
+  -- a block of the kind stands before those of the next
+  below-past : (b : ℕ) → b < n → kind b ≡ k → b < past
+  below-past b h e = ltb-true b past (sym (less-first kind n (s .rises) (suc k) b h) ∙ lt-ltb (kind b) (suc k) (omega arith))
 
   -- and a block that stands between is of the kind
   from-kind : (b : ℕ) → from ≤ b → b < past → kind b ≡ k
@@ -54,11 +52,7 @@ module _ {kind used : ℕ → ℕ} {n : ℕ} (s : Stacked kind used n) (k : ℕ)
       let hi = ltb-true (kind b) (suc k) (less-first kind n (s .rises) (suc k) b h ∙ lt-ltb b past m) in
       omega arith
 
-  -- its records are among those of the kind
-  among : (b : ℕ) → b < n → kind b ≡ k → (b - from) * 42 + used b ≤ total
-  among b h e = omega (arith, before s k b h e, rw (eq-eqb (kind b) k e) at (sum-has (ofKind kind used k) b n h))
-
-  -- it has 42 of them, or all that are left
+  -- it has 42 records, or all that are left
   used-is : (b : ℕ) → b < n → kind b ≡ k → used b ≡ min 42 (total - (b - from) * 42)
   used-is b h e = go (ltb (used b) 42) refl (ltb ((b - from) * 42 + used b) total) refl
     where
@@ -66,12 +60,12 @@ module _ {kind used : ℕ → ℕ} {n : ℕ} (s : Stacked kind used n) (k : ℕ)
       go true t true u =
           let l = ltb-true (used b) 42 t in
           let a = stand s k ((b - from) * 42 + used b) (ltb-true ((b - from) * 42 + used b) total u) in
-          let same : a .b ≡ b = omega (arith, a .place, a .start, a .inside, s .few (a .b) (a .there), kind-from b h e .0) in
+          let same : a .b ≡ b = omega (arith, a .place, a .start, a .inside, s .few (a .b) (a .there), from-first s k b h e) in
           absurd (omega (arith, a .place, a .inside, ap used same))
-      go true t false u = omega (arith, ltb-false ((b - from) * 42 + used b) total u, among b h e, s .few b h)
-      go false t u f = omega (arith, ltb-false (used b) 42 t, among b h e, s .few b h)
+      go true t false u = omega (arith, ltb-false ((b - from) * 42 + used b) total u, among s k b h e, s .few b h)
+      go false t u f = omega (arith, ltb-false (used b) 42 t, among s k b h e, s .few b h)
 
-  -- the blocks of the kind have room for its records, and the last of them is needed
+  -- the blocks of the kind have room for its records
   room-enough : total ≤ (past - from) * 42
   room-enough = go (ltb 0 total) refl
     where
@@ -79,13 +73,14 @@ module _ {kind used : ℕ → ℕ} {n : ℕ} (s : Stacked kind used n) (k : ℕ)
       go true t =
           let l = ltb-true 0 total t in
           let a = stand s k (total - 1) (omega arith) in
-          omega (arith, a .place, a .inside, s .few (a .b) (a .there), kind-from (a .b) (a .there) (a .its-kind) .0, kind-from (a .b) (a .there) (a .its-kind) .1)
+          omega (arith, a .place, a .inside, a .start, s .few (a .b) (a .there), below-past (a .b) (a .there) (a .its-kind))
       go false t = omega (arith, ltb-false 0 total t)
 
+  -- the last of them is needed
   last-needed : from < past → (past - 1 - from) * 42 < total
   last-needed l =
       let h : past - 1 < n = omega (arith, count-bound (λ i. ltb (kind i) (suc k)) n) in
-      omega (arith, among (past - 1) h (from-kind (past - 1) (omega arith) (omega arith)), s .some (past - 1) h)
+      omega (arith, among s k (past - 1) h (from-kind (past - 1) (omega arith) (omega arith)), s .some (past - 1) h)
 
   -- so that many blocks are of the kind
   next-is : past ≡ from + blocksFor total
@@ -96,14 +91,16 @@ module _ {kind used : ℕ → ℕ} {n : ℕ} (s : Stacked kind used n) (k : ℕ)
 -- ---- one file
 
 module _ (file : List ℕ) (p : Passed file) where
+  -- its blocks are stacked
   stack : Stacked (kindOf file) (usedOf file) (blocks file)
   stack = stacked file (p .one) (p .three) (p .four)
 
-  -- the file is whole blocks, and each byte stands in one
+  -- the file is whole blocks
   whole-blocks : length file ≡ blocks file * 512
   unfolding lengthRight
   whole-blocks = omega (arith, eqb-true (length file % 512) 0 (and-both (eqb (length file % 512) 0) _ (p .one) .left))
 
+  -- each byte stands in one of them
   byte-is : (i : ℕ) → i < length file → getD file i 0 ≡ getD (blockOf file (i / 512)) (i % 512) 0
   byte-is i l =
       let e : i / 512 * 512 + i % 512 ≡ i = omega arith in
@@ -111,6 +108,7 @@ module _ (file : List ℕ) (p : Passed file) where
       (sym (getD-take 512 (drop (i / 512 * 512) file) (i % 512) 0 (omega arith)
       ∙ getD-drop (i / 512 * 512) file (i % 512) 0 ∙ ap (λ (j : ℕ). getD file j 0) e))
 
+  -- each of them passes stages 2 and 3
   whole : AreBytes file → (b : ℕ) → b < blocks file → Whole b (blockOf file b)
   whole bytes b l =
       record {
@@ -121,7 +119,7 @@ module _ (file : List ℕ) (p : Passed file) where
       }
 
   -- the kinds are 1 to 4
-  pub kind-within : (b : ℕ) → b < blocks file → Within 1 (kindOf file b) 4
+  kind-within : (b : ℕ) → b < blocks file → Within 1 (kindOf file b) 4
   kind-within zero l = let e = first-kind _ _ (parts file 0 (p .three 0 l) .kind) in record { low = omega arith; high = omega arith }
   kind-within (suc b) l =
       let w = later-kind b _ _ (parts file (suc b) (p .three (suc b) l) .kind) .0 in
@@ -150,14 +148,6 @@ module _ (file : List ℕ) (p : Passed file) where
   unfolding firstBlock countOf
   used-at k b l e = used-is stack k b l e
 
-  -- which they are
-  pub record-at : (k b i : ℕ) → b < blocks file → kindOf file b ≡ k → i < usedOf file b
-      → ((b - firstBlock file k) * 42 + i < countOf file k) × (recordNo file k ((b - firstBlock file k) * 42 + i) ≡ recordOf file b i)
-  unfolding firstBlock countOf
-  record-at k b i l e h =
-      (omega (arith, among stack k b l e),
-      no-is file (p .one) (p .three) (p .four) k ((b - firstBlock file k) * 42 + i) b i (kind-from stack k b l e .0) refl (omega (arith, stack .few b l)))
-
 -- ---- two files
 
 -- as many records of each kind, and the same
@@ -176,6 +166,7 @@ module _ (f g : List ℕ) (p : Passed f) (q : Passed g) (same : SameRecords f g)
   same-start zero w = absurd (omega (arith, w .low))
   same-start (suc k) w = same-first k (omega (arith, w .high))
 
+  -- there are as many blocks
   same-blocks : blocks f ≡ blocks g
   same-blocks = sym (first-end f p) ∙ same-first 4 (omega arith) ∙ first-end g q
 
@@ -211,15 +202,17 @@ module _ (f g : List ℕ) (p : Passed f) (q : Passed g) (same : SameRecords f g)
 
     same-record : (i : ℕ) → i < usedOf f b → recordOf f b i ≡ recordOf g b i
     same-record i h =
-        let x = record-at f p k b i l refl h in
-        let y = record-at g q k b i there same-kind (rw same-used at h) in
+        let x = record-at f (p .one) (p .three) (p .four) k b i l refl h in
+        let y = record-at g (q .one) (q .three) (q .four) k b i there same-kind (rw same-used at h) in
         sym (x .1) ∙ same .records k _ low high (x .0) ∙ rw start (y .1)
 
+    -- so it is the same block
     same-part : AreBytes f → AreBytes g → blockOf f b ≡ blockOf g b
     unfolding recordOf
     same-part bf bg =
         same-block b (blockOf f b) (blockOf g b) (whole f p bf b l) (whole g q bg b there) (sym same-kind) same-used same-record
 
+  -- so the files are one
   pub same-file : AreBytes f → AreBytes g → f ≡ g
   same-file bf bg =
       let e = same-blocks in

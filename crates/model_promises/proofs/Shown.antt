@@ -134,7 +134,7 @@ exit-right file r kind e some h = and-both (exitFits kind (exitOf r)) (allZero (
 
 module _ (file : List ℕ) (bytes : AreBytes file) (p1 : Passes1 file) (p3 : Passes3 file) (p4 : Passes4 file) (pl : Placed file) where
   -- the bytes of a record
-  pub a-byte : (k j i : ℕ) → getD (recordNo file k j) i 0 < 256
+  a-byte : (k j i : ℕ) → getD (recordNo file k j) i 0 < 256
   a-byte k j = byte-at (record-from-bytes file (firstBlock file k) j (bytes-by file bytes))
 
   abbrev n : ℕ
@@ -142,11 +142,11 @@ module _ (file : List ℕ) (bytes : AreBytes file) (p1 : Passes1 file) (p3 : Pas
 
   -- ---- rows
 
-  abbrev pub owner : ℕ → ℕ
+  abbrev owner : ℕ → ℕ
   owner j = getD (recordNo file 4 j) 0 0
 
   -- the limit records ascend, so their owners never fall
-  pub owners-rise : (j : ℕ) → suc j < countOf file 4 → owner j ≤ owner (suc j)
+  owners-rise : (j : ℕ) → suc j < countOf file 4 → owner j ≤ owner (suc j)
   owners-rise j l =
       omega (arith, keys-climb file p1 p3 p4 4 j (omega arith) l, a-byte 4 j 1, a-byte 4 j 2, a-byte 4 (suc j) 1, a-byte 4 (suc j) 2)
 
@@ -159,7 +159,7 @@ module _ (file : List ℕ) (bytes : AreBytes file) (p1 : Passes1 file) (p3 : Pas
   rows-few s = omega arith
 
   -- the number of the record of row k of subject s
-  abbrev pub rowNo : ℕ → ℕ → ℕ
+  abbrev rowNo : ℕ → ℕ → ℕ
   rowNo s k = placeIn (rowsIn file) s k
 
   -- that record is there, and its owner is s
@@ -169,7 +169,7 @@ module _ (file : List ℕ) (bytes : AreBytes file) (p1 : Passes1 file) (p3 : Pas
       rw (sum-same (rowsIn file) (limitsIn file) s (λ i m. rows-are i (omega arith)))
       (own-place owner (countOf file 4) owners-rise s k (rw (rows-are s l) at h))
 
-  abbrev pub rowsAt : ℕ → List Row
+  abbrev rowsAt : ℕ → List Row
   rowsAt s = rowsFrom file (firstBlock file 4) (sumBelow (rowsIn file) s) (rowsIn file s)
 
   pub row-here : (s k : ℕ) → k < rowsIn file s → getD (rowsAt s) k blankRow ≡ rowOf (recordNo file 4 (rowNo s k))
@@ -235,7 +235,7 @@ module _ (file : List ℕ) (bytes : AreBytes file) (p1 : Passes1 file) (p3 : Pas
   -- ---- states
 
   -- the number of the record of state t of subject s
-  abbrev pub stateNo : ℕ → ℕ → ℕ
+  abbrev stateNo : ℕ → ℕ → ℕ
   stateNo s t = placeIn (statesIn file) s t
 
   pub state-place : (s t : ℕ) → s < 16 → t < statesIn file s → stateNo s t < countOf file 2
@@ -275,7 +275,7 @@ module _ (file : List ℕ) (bytes : AreBytes file) (p1 : Passes1 file) (p3 : Pas
   -- ---- exits
 
   -- the number of the record of exit x of the state at place p
-  abbrev pub exitNo : ℕ → ℕ → ℕ
+  abbrev exitNo : ℕ → ℕ → ℕ
   exitNo p x = placeIn (exitsIn file) p x
 
   pub exit-place : (p x : ℕ) → p < 512 → x < exitsIn file p → exitNo p x < countOf file 3
@@ -373,7 +373,7 @@ module _ (file : List ℕ) where
   pub before-is : (p : ℕ) → p ≤ 512 → exitsBefore (modelOf file) p ≡ sumBelow (exitsIn file) p
   before-is p l = sum-same _ (exitsIn file) p (λ q k. stored-exits q (omega arith))
 
-  pub all-is : exitsInAll (modelOf file) ≡ sumBelow (exitsIn file) 512
+  all-is : exitsInAll (modelOf file) ≡ sumBelow (exitsIn file) 512
   unfolding exitsInAll
   all-is = before-is 512 (omega arith)
 

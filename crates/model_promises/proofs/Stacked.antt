@@ -12,7 +12,7 @@ use Rattle.sets.specs.Below.{sumBelow}
 use Rattle.sets.specs.Groups.{placeIn}
 use Rattle.sets.specs.Tests.{within, allZero}
 use Rattle.sets.proofs.Tests.{Within, within-is, and-both, not-both}
-use Rattle.sets.proofs.Below.{all-each}
+use Rattle.sets.proofs.Below.{all-each, sum-has}
 use Rattle.sets.proofs.Groups.{spot}
 use Rattle.blocks.specs.Blocks.{blocks, blockOf, usedIn, roomRight, kindOf, usedOf, recordIn, recordOf, firstBlock, countOf, recordFrom, recordNo}
 use Rattle.blocks.proofs.BlockLaws.{block-length, record-here}
@@ -54,7 +54,7 @@ module _ {kind used : ℕ → ℕ} {n : ℕ} (s : Stacked kind used n) (k : ℕ)
       omega (arith, never-falls kind n (s .rises) c b l h)
 
   -- before a block of kind k: 42 records in each block of the kind
-  pub before : (b : ℕ) → b < n → kind b ≡ k → sumBelow (ofKind kind used k) b ≡ (b - countLess kind n k) * 42
+  before : (b : ℕ) → b < n → kind b ≡ k → sumBelow (ofKind kind used k) b ≡ (b - countLess kind n k) * 42
   before b h e = sum-is _ (λ c. (c - countLess kind n k) * 42) b (omega arith) (λ c l. go c l (ltb c (countLess kind n k)) refl)
     where
       go : (c : ℕ) → c < b → (t : Bool) → ltb c (countLess kind n k) ≡ t → (c - countLess kind n k) * 42 + ofKind kind used k c ≡ (suc c - countLess kind n k) * 42
@@ -66,6 +66,13 @@ module _ {kind used : ℕ → ℕ} {n : ℕ} (s : Stacked kind used n) (k : ℕ)
           let here = between b c h e (omega arith) m in
           let next = between b (suc c) h e l (omega arith) in
           rw (eq-eqb (kind c) k here) (omega (arith, s .full c (omega arith) (next ∙ sym here)))
+
+  -- a block of kind k does not stand before the first, and its records are among those of the kind
+  pub from-first : (b : ℕ) → b < n → kind b ≡ k → countLess kind n k ≤ b
+  from-first b h e = ltb-false b (countLess kind n k) (sym (less-first kind n (s .rises) k b h) ∙ le-ltb (kind b) k (omega arith))
+
+  pub among : (b : ℕ) → b < n → kind b ≡ k → (b - countLess kind n k) * 42 + used b ≤ sumBelow (ofKind kind used k) n
+  among b h e = omega (arith, before b h e, rw (eq-eqb (kind b) k e) at (sum-has (ofKind kind used k) b n h))
 
   pub stand : (j : ℕ) → j < sumBelow (ofKind kind used k) n → Stand kind used n k j
   stand j l = let a = spot (ofKind kind used k) n j l in go (a .g) (a .k) (a .group) (a .inside) (a .place) (eqb (kind (a .g)) k) refl
@@ -79,7 +86,7 @@ module _ {kind used : ℕ → ℕ} {n : ℕ} (s : Stacked kind used n) (k : ℕ)
             there = h;
             its-kind = e;
             inside = rw t at m;
-            start = ltb-false b (countLess kind n k) (sym (less-first kind n (s .rises) k b h) ∙ le-ltb (kind b) k (omega arith));
+            start = from-first b h e;
             place = omega (arith, before b h e);
           }
       go b i h m p false t = absurd (omega (arith, rw t at m))
@@ -181,9 +188,11 @@ module _ (file : List ℕ) (p1 : Passes1 file) (p3 : Passes3 file) (p4 : Passes4
   subject-header : (s : ℕ) → s < subjectsIn file → (getD (recordOf file 0 (s + 1)) 0 0 ≡ s) × Within 1 (getD (recordOf file 0 (s + 1)) 1 0) 32
   subject-header s l = header-states (usedOf file 0) s (recordOf file 0 (s + 1)) (header (s + 1) (omega (arith, subjects-header .1)))
 
+  -- the header of a subject names it
   pub header-names : (s : ℕ) → s < subjectsIn file → getD (recordOf file 0 (s + 1)) 0 0 ≡ s
   header-names s l = subject-header s l .0
 
+  -- past its three bytes a header is zero
   pub header-rest : (i : ℕ) → i ≤ subjectsIn file → allZero (drop 3 (recordOf file 0 i)) ≡ true
   header-rest i l = header-zeros (usedOf file 0) i (recordOf file 0 i) (header i (omega (arith, subjects-header .1)))
 
@@ -203,17 +212,17 @@ module _ (file : List ℕ) (p1 : Passes1 file) (p3 : Passes3 file) (p4 : Passes4
       }
 
   -- where record j of kind k stands
-  abbrev pub Stands : ℕ → ℕ → Type 0
+  abbrev Stands : ℕ → ℕ → Type 0
   Stands k j = Stand (kindOf file) (usedOf file) (blocks file) k j
 
   pub stands : (k j : ℕ) → j < countOf file k → Stands k j
   unfolding countOf
   stands k j l = stand stacked k j l
 
-  abbrev pub first : ℕ → ℕ
+  abbrev first : ℕ → ℕ
   first k = countLess (kindOf file) (blocks file) k
 
-  pub no-is : (k j b i : ℕ) → first k ≤ b → (b - first k) * 42 + i ≡ j → i < 42 → recordNo file k j ≡ recordOf file b i
+  no-is : (k j b i : ℕ) → first k ≤ b → (b - first k) * 42 + i ≡ j → i < 42 → recordNo file k j ≡ recordOf file b i
   unfolding recordFrom firstBlock
   no-is k j b i l e h =
       let a : first k + j / 42 ≡ b = omega arith in
@@ -222,6 +231,15 @@ module _ (file : List ℕ) (p1 : Passes1 file) (p3 : Passes3 file) (p4 : Passes4
 
   pub here : (k j : ℕ) (s : Stands k j) → recordNo file k j ≡ recordOf file (s .b) (s .i)
   here k j s = no-is k j (s .b) (s .i) (s .start) (s .place) (omega (arith, s .inside, stacked .few (s .b) (s .there)))
+
+  -- record i of block b, by its kind and its number
+  pub record-at : (k b i : ℕ) → b < blocks file → kindOf file b ≡ k → i < usedOf file b
+      → ((b - firstBlock file k) * 42 + i < countOf file k) × (recordNo file k ((b - firstBlock file k) * 42 + i) ≡ recordOf file b i)
+  unfolding firstBlock countOf
+  record-at k b i l e h = (
+    omega (arith, among stacked k b l e),
+    no-is k ((b - firstBlock file k) * 42 + i) b i (from-first stacked k b l e) refl (omega (arith, stacked .few b l)),
+  )
 
   -- the record before record j + 1 is record j
   before-is : (k j : ℕ) (s : Stands k (suc j)) → recordBefore file (s .b) (s .i) ≡ recordNo file k j

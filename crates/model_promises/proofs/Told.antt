@@ -6,7 +6,7 @@ use Prim.Native.Nat.{ℕ, zero, suc, _+_, _-_, _*_, _/_, _%_, _≤_, _<_}
 use native.Mathlib.Omega.{arith}
 use borrow.Author.Tests.{ltb-true, ltb-false, eqb-true}
 use lib.Dec.{ltb, eqb}
-use lib.ListN.{length, getD, take, drop, length-take, length-drop, List·getD-eq-default}
+use lib.ListN.{length, getD, take, drop, length-take, List·getD-eq-default}
 use lib.Seq.{getD-take, getD-drop, ext-getD}
 use Rattle.sets.specs.Tests.{within, allZero}
 use Rattle.sets.proofs.Tests.{Within, within-is, and-both}
@@ -92,9 +92,11 @@ module _ (b : ℕ) (s t : List ℕ) (x : Whole b s) (y : Whole b t) (kind : kind
           let m = ltb-false i (4 + 12 * usedIn s) e in
           x .room .zeros i m h ∙ sym (y .room .zeros i (rw used at m) h)
 
+  -- the bytes of their number
   number-apart : (getD s 1 0 ≡ getD t 1 0) × (getD s 0 0 ≡ getD t 0 0)
   number-apart = key-apart (getD t 1 0) (getD t 0 0) (getD s 1 0) (getD s 0 0) (y .bytes 0) (x .bytes 0) (x .room .number ∙ sym (y .room .number))
 
+  -- all bytes before the check
   body-byte : (i : ℕ) → i < 508 → getD s i 0 ≡ getD t i 0
   body-byte zero h = number-apart .1
   body-byte (suc zero) h = number-apart .0
@@ -109,11 +111,13 @@ module _ (b : ℕ) (s t : List ℕ) (x : Whole b s) (y : Whole b t) (kind : kind
       ext-getD 0 (take 508 s) (take 508 t) (omega (arith, x .long, y .long))
       (λ i l. let h : i < 508 = omega arith in getD-take 508 s i 0 h ∙ body-byte i h ∙ sym (getD-take 508 t i 0 h))
 
+  -- so the check, and its bytes
   same-check : (getD s 508 0 ≡ getD t 508 0) × (getD s 509 0 ≡ getD t 509 0) × (getD s 510 0 ≡ getD t 510 0) × (getD s 511 0 ≡ getD t 511 0)
   same-check =
       four-apart _ _ _ _ _ _ _ _ (x .bytes 508) (x .bytes 509) (x .bytes 510) (y .bytes 508) (y .bytes 509) (y .bytes 510)
       (check-is s (x .check) ∙ ap checkOf same-body ∙ sym (check-is t (y .check)))
 
+  -- so the blocks are one
   pub same-block : s ≡ t
   same-block = ext-getD 0 s t (x .long ∙ sym (y .long)) (λ i l. go i (omega (arith, x .long)) (ltb i 508) refl)
     where

@@ -43,7 +43,7 @@ unfolding rowOf
 row-back s w = refl
 
 -- a list of nothing but blanks
-all-blank : {A : Type 0} (n : ℕ) (d : A) (l : List A) → length l ≡ n → ((i : ℕ) → i < n → getD l i d ≡ d) → replicate n d ≡ l
+pub all-blank : {A : Type 0} (n : ℕ) (d : A) (l : List A) → length l ≡ n → ((i : ℕ) → i < n → getD l i d ≡ d) → replicate n d ≡ l
 all-blank n d l e h =
     let k = length-replicate n d in
     ext-getD d (replicate n d) l (k ∙ sym e) (λ i a. let b : i < n = omega arith in getD-replicate n i d d b ∙ sym (h i b))

@@ -6,6 +6,10 @@ pub mod Loads
 pub mod One
 pub mod Worked
 pub mod Ordered
+pub mod Told
 pub mod Stacked
 pub mod Shown
 pub mod Five
+pub mod SameFile
+pub mod Again
+pub mod OneFile

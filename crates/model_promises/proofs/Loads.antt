@@ -92,10 +92,18 @@ unfolding loaded acrossOr
 good-model file p1 p2 p3 p4 e =
     rw (p1, first-by (λ a. checkRight (blockOf file a)) (blocks file) p2, first-by (blockRight file) (blocks file) p3, first-by (recordsRight file) (blocks file) p4, e)
 
--- a file that loads: the model is that of its records, and no rule across records is broken
-record Loading (file : List ℕ) (m : Model) : Type 0 where
-  model : m ≡ modelOf file
-  across : acrossRight file ≡ true
+-- stages 1 to 4 find nothing wrong
+pub record Passed (file : List ℕ) : Type 0 where
+  pub one : Passes1 file
+  pub two : Passes2 file
+  pub three : Passes3 file
+  pub four : Passes4 file
+
+-- a file that loads: the model is that of its records, every stage passes, and no rule across records is broken
+pub record Loading (file : List ℕ) (m : Model) : Type 0 where
+  pub model : m ≡ modelOf file
+  pub stages : Passed file
+  pub across : acrossRight file ≡ true
 
 never : {A : Type 0} (f : Verdict → ℕ) (v w : Verdict) → v ≡ w → (f v ≡ f w → ⊥) → A
 never f v w e h = absurd (h (ap f e))
@@ -108,7 +116,7 @@ isGood (Block b) = 0
 isGood (Record b) = 0
 isGood Across = 0
 
-loading : (file : List ℕ) (m : Model) → LoadsTo file m → Loading file m
+pub loading : (file : List ℕ) (m : Model) → LoadsTo file m → Loading file m
 loading file m h = go (loaded file .verdict) (means file) (ap (λ (x : Loaded). x .verdict) h)
   where
     go : (v : Verdict) → Means file v → v ≡ Good → Loading file m
@@ -118,7 +126,11 @@ loading file m h = go (loaded file .verdict) (means file) (ap (λ (x : Loaded). 
     go v (wrong-record {b} p q r w) g = never isGood (Record b) Good g (λ z. omega arith)
     go v (wrong-across p q r s e) g = never isGood Across Good g (λ z. omega arith)
     go v (all-right p1 p2 p3 p4 e) g =
-        record { model = ap (λ (x : Loaded). x .model) (sym h ∙ good-model file p1 p2 p3 p4 e); across = e }
+        record {
+          model = ap (λ (x : Loaded). x .model) (sym h ∙ good-model file p1 p2 p3 p4 e);
+          stages = record { one = p1; two = p2; three = p3; four = p4 };
+          across = e;
+        }
 
 pub loads-valid : LoadsValid
 loads-valid file m h =

@@ -9,14 +9,8 @@ use native.Mathlib.Omega.{arith}
 use borrow.Author.Tests.{ltb-true, ltb-false, lt-ltb, le-ltb, eqb-true, eqb-false}
 use lib.Dec.{ltb, eqb}
 use Rattle.sets.specs.Below.{sumBelow, countBelow}
-use Rattle.sets.proofs.Below.{last-or, count-miss, count-bound, sum-same}
+use Rattle.sets.proofs.Below.{last-or, count-miss, count-bound, sum-same, sum-plus}
 use Rattle.sets.proofs.Pieces.{sum-is, count-is}
-
--- the sum of sums
-sum-both : (f g : ℕ → ℕ) (n : ℕ) → sumBelow (λ i. f i + g i) n ≡ sumBelow f n + sumBelow g n
-unfolding sumBelow
-sum-both f g zero = refl
-sum-both f g (suc n) = omega (arith, sum-both f g n)
 
 -- a test that holds at a number holds at all before it: so it holds at as many as it is counted at, from the first on
 front : (p : ℕ → Bool) (n : ℕ) → ((i j : ℕ) → i ≤ j → j < n → p j ≡ true → p i ≡ true) → (i : ℕ) → i < n → p i ≡ ltb i (countBelow p n)
@@ -42,9 +36,9 @@ countEqual f n v = countBelow (λ i. eqb (f i) v) n
 less-none : (f : ℕ → ℕ) (n : ℕ) → countLess f n 0 ≡ 0
 less-none f n = count-is (λ i. ltb (f i) 0) 0 n (omega arith) (λ i l. le-ltb (f i) 0 (omega arith) ∙ sym (le-ltb i 0 (omega arith)))
 
-less-more : (f : ℕ → ℕ) (n v : ℕ) → countLess f n v + countEqual f n v ≡ countLess f n (suc v)
+pub less-more : (f : ℕ → ℕ) (n v : ℕ) → countLess f n v + countEqual f n v ≡ countLess f n (suc v)
 unfolding countBelow
-less-more f n v = sym (sum-both (λ i. cond (ltb (f i) v) 1 0) (λ i. cond (eqb (f i) v) 1 0) n) ∙ sum-same _ _ n (λ i l. one (f i) (ltb (f i) v) refl (eqb (f i) v) refl)
+less-more f n v = sym (sum-plus (λ i. cond (ltb (f i) v) 1 0) (λ i. cond (eqb (f i) v) 1 0) n) ∙ sum-same _ _ n (λ i l. one (f i) (ltb (f i) v) refl (eqb (f i) v) refl)
   where
     one : (x : ℕ) (b : Bool) → ltb x v ≡ b → (c : Bool) → eqb x v ≡ c → cond (ltb x v) 1 0 + cond (eqb x v) 1 0 ≡ cond (ltb x (suc v)) 1 0
     one x true e true d = absurd (omega (arith, ltb-true x v e, eqb-true x v d))
@@ -53,6 +47,10 @@ less-more f n v = sym (sum-both (λ i. cond (ltb (f i) v) 1 0) (λ i. cond (eqb 
     one x false e false d =
         let apart = eqb-false x v d in
         rw (e, d, le-ltb x (suc v) (omega (arith, ltb-false x v e)))
+
+-- so many are below v: those that are 0, 1, .. v - 1
+pub less-sum : (f : ℕ → ℕ) (n v : ℕ) → sumBelow (countEqual f n) v ≡ countLess f n v
+less-sum f n v = sum-is (countEqual f n) (countLess f n) v (less-none f n) (λ i _. less-more f n i)
 
 module _ (f : ℕ → ℕ) (n : ℕ) (rises : (i : ℕ) → suc i < n → f i ≤ f (suc i)) where
   -- a later number is not smaller
@@ -68,7 +66,7 @@ module _ (f : ℕ → ℕ) (n : ℕ) (rises : (i : ℕ) → suc i < n → f i �
   -- the k-th v stands behind all smaller numbers and k more of its own
   pub own-place : (v k : ℕ) → k < countEqual f n v → (sumBelow (countEqual f n) v + k < n) × (f (sumBelow (countEqual f n) v + k) ≡ v)
   own-place v k l =
-      let s = sum-is (countEqual f n) (countLess f n) v (less-none f n) (λ i _. less-more f n i) in
+      let s = less-sum f n v in
       let j = sumBelow (countEqual f n) v + k in
       let h : j < n = omega (arith, less-more f n v, count-bound (λ i. ltb (f i) (suc v)) n) in
       let a = ltb-true (f j) (suc v) (less-first (suc v) j h ∙ lt-ltb j (countLess f n (suc v)) (omega (arith, less-more f n v))) in

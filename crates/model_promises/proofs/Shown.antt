@@ -6,12 +6,12 @@ use Prim.Native.Nat.{ℕ, zero, suc, _+_, _-_, _*_, _/_, _%_, _≤_, _<_}
 use native.Mathlib.Omega.{arith}
 use borrow.Author.Tests.{ltb-true, ltb-false, lt-ltb, le-ltb, leb-true, eqb-true, eq-eqb, ne-eqb}
 use lib.Dec.{ltb, leb, eqb}
-use lib.ListN.{getD, getD-replicate, List·getD-eq-default}
+use lib.ListN.{getD, drop, getD-replicate, List·getD-eq-default}
 use Rattle.sets.proofs.Bytes.{byte-at, bytes-by}
 use Rattle.sets.specs.Below.{allBelow, sumBelow}
 use Rattle.sets.specs.Groups.{placeIn, inPlaces}
-use Rattle.sets.specs.Tests.{within}
-use Rattle.sets.proofs.Tests.{Within, within-is, and-true, and-both, choose}
+use Rattle.sets.specs.Tests.{within, allZero}
+use Rattle.sets.proofs.Tests.{Within, within-is, Both, and-true, and-both, choose}
 use Rattle.sets.proofs.Below.{all-each, table-at, sum-grows, sum-has, sum-same}
 use Rattle.sets.proofs.Groups.{in-places-at, length-in-places, spot}
 use Rattle.blocks.proofs.BlockLaws.{record-from-bytes}
@@ -59,7 +59,7 @@ pub record Shown (m : Model) : Type 0 where
 -- ---- a group in its places
 
 module _ {A : Type 0} (size : ℕ) (blank : A) (count : ℕ) (nth : ℕ → A) (i : ℕ) (l : i < size) where
-  in-there : i < count → getD (inPlaces size blank count nth) i blank ≡ nth i
+  pub in-there : i < count → getD (inPlaces size blank count nth) i blank ≡ nth i
   in-there h = in-places-at size blank count nth i blank l ∙ rw (lt-ltb i count h)
 
   in-gone : count ≤ i → getD (inPlaces size blank count nth) i blank ≡ blank
@@ -68,14 +68,15 @@ module _ {A : Type 0} (size : ℕ) (blank : A) (count : ℕ) (nth : ℕ → A) (
 -- ---- records in place
 
 -- what inPlace says, part by part
-record Placed (file : List ℕ) : Type 0 where
-  named : (p : ℕ) → p < 512 → stateNamed file p ≡ true
-  states : countOf file 2 ≡ sumBelow (statesIn file) 16
-  exits-named : (p : ℕ) → p < 512 → exitsNamedIn file p ≡ true
-  exits : countOf file 3 ≡ sumBelow (exitsIn file) 512
-  few : (s : ℕ) → s < 16 → limitsIn file s ≤ 8
+pub record Placed (file : List ℕ) : Type 0 where
+  pub named : (p : ℕ) → p < 512 → stateNamed file p ≡ true
+  pub states : countOf file 2 ≡ sumBelow (statesIn file) 16
+  pub exits-named : (p : ℕ) → p < 512 → exitsNamedIn file p ≡ true
+  pub exits : countOf file 3 ≡ sumBelow (exitsIn file) 512
+  pub owner : (j : ℕ) → j < countOf file 4 → ownerThere file j ≡ true
+  pub few : (s : ℕ) → s < 16 → limitsIn file s ≤ 8
 
-placed : (file : List ℕ) → inPlace file ≡ true → Placed file
+pub placed : (file : List ℕ) → inPlace file ≡ true → Placed file
 unfolding inPlace statesInPlace exitsInPlace limitsInPlace
 placed file h =
     let c = and-both (statesInPlace file && exitsInPlace file) (limitsInPlace file) h in
@@ -88,6 +89,7 @@ placed file h =
       states = eqb-true (countOf file 2) (sumBelow (statesIn file) 16) (s .right);
       exits-named = all-each (exitsNamedIn file) 512 (x .left);
       exits = eqb-true (countOf file 3) (sumBelow (exitsIn file) 512) (x .right);
+      owner = all-each (ownerThere file) (countOf file 4) (l .left);
       few = λ s k. leb-true (limitsIn file s) 8 (all-each (λ s. leb (limitsIn file s) 8) 16 (l .right) s k);
     }
 
@@ -112,9 +114,9 @@ kind-some st h e =
     let a = and-both (within (shapeOf (st .kind) .least) (st .exits) (shapeOf (st .kind) .most)) _ (b .left) in
     no-room (st .exits) (rw e at (a .left))
 
-row-right : (file r : List ℕ) → fieldsRight file 4 r ≡ true → rowFits (rowOf r) ≡ true
+row-right : (file r : List ℕ) → fieldsRight file 4 r ≡ true → Both (rowFits (rowOf r)) (allZero (drop 4 r))
 unfolding fieldsRight limitRight
-row-right file r h = and-both (rowFits (rowOf r)) _ h .left
+row-right file r h = and-both (rowFits (rowOf r)) (allZero (drop 4 r)) h
 
 -- of one owner, sender and type ascend where all of the key does
 row-after : (r t : List ℕ) → getD r 0 0 ≡ getD t 0 0 → fullKey r < fullKey t → ltb (rowKey (rowOf r)) (rowKey (rowOf t)) ≡ true
@@ -125,9 +127,10 @@ state-right : (file r : List ℕ) → fieldsRight file 2 r ≡ true → stateFit
 unfolding fieldsRight
 state-right file r h = h
 
-exit-right : (file r : List ℕ) (kind : ℕ) → ownKind file (stateKey r) ≡ kind → (kind ≡ 0 → ⊥) → fieldsRight file 3 r ≡ true → exitFits kind (exitOf r) ≡ true
+exit-right : (file r : List ℕ) (kind : ℕ) → ownKind file (stateKey r) ≡ kind → (kind ≡ 0 → ⊥) → fieldsRight file 3 r ≡ true
+    → Both (exitFits kind (exitOf r)) (allZero (drop 6 r))
 unfolding fieldsRight exitRight
-exit-right file r kind e some h = and-both (exitFits kind (exitOf r)) _ (rw (e, ne-eqb kind 0 some) at h) .left
+exit-right file r kind e some h = and-both (exitFits kind (exitOf r)) (allZero (drop 6 r)) (rw (e, ne-eqb kind 0 some) at h)
 
 module _ (file : List ℕ) (bytes : AreBytes file) (p1 : Passes1 file) (p3 : Passes3 file) (p4 : Passes4 file) (pl : Placed file) where
   -- the bytes of a record
@@ -147,7 +150,7 @@ module _ (file : List ℕ) (bytes : AreBytes file) (p1 : Passes1 file) (p3 : Pas
   owners-rise j l =
       omega (arith, keys-climb file p1 p3 p4 4 j (omega arith) l, a-byte 4 j 1, a-byte 4 j 2, a-byte 4 (suc j) 1, a-byte 4 (suc j) 2)
 
-  rows-are : (s : ℕ) → s < 16 → rowsIn file s ≡ limitsIn file s
+  pub rows-are : (s : ℕ) → s < 16 → rowsIn file s ≡ limitsIn file s
   unfolding rowsIn
   rows-are s l = omega (arith, pl .few s l)
 
@@ -160,7 +163,7 @@ module _ (file : List ℕ) (bytes : AreBytes file) (p1 : Passes1 file) (p3 : Pas
   rowNo s k = placeIn (rowsIn file) s k
 
   -- that record is there, and its owner is s
-  row-place : (s k : ℕ) → s < 16 → k < rowsIn file s → (rowNo s k < countOf file 4) × (owner (rowNo s k) ≡ s)
+  pub row-place : (s k : ℕ) → s < 16 → k < rowsIn file s → (rowNo s k < countOf file 4) × (owner (rowNo s k) ≡ s)
   unfolding limitsIn
   row-place s k l h =
       rw (sum-same (rowsIn file) (limitsIn file) s (λ i m. rows-are i (omega arith)))
@@ -169,7 +172,7 @@ module _ (file : List ℕ) (bytes : AreBytes file) (p1 : Passes1 file) (p3 : Pas
   abbrev rowsAt : ℕ → List Row
   rowsAt s = rowsFrom file (firstBlock file 4) (sumBelow (rowsIn file) s) (rowsIn file s)
 
-  row-here : (s k : ℕ) → k < rowsIn file s → getD (rowsAt s) k blankRow ≡ rowOf (recordNo file 4 (rowNo s k))
+  pub row-here : (s k : ℕ) → k < rowsIn file s → getD (rowsAt s) k blankRow ≡ rowOf (recordNo file 4 (rowNo s k))
   unfolding rowsFrom
   row-here s k h = in-there 8 blankRow (rowsIn file s) _ k (omega (arith, rows-few s)) h
 
@@ -177,9 +180,12 @@ module _ (file : List ℕ) (bytes : AreBytes file) (p1 : Passes1 file) (p3 : Pas
   unfolding rowsFrom
   row-gone s k l h = in-gone 8 blankRow (rowsIn file s) _ k l h
 
+  -- its fields are right, and what follows them is zero
+  pub row-both : (s k : ℕ) → s < 16 → k < rowsIn file s → Both (rowFits (rowOf (recordNo file 4 (rowNo s k)))) (allZero (drop 4 (recordNo file 4 (rowNo s k))))
+  row-both s k l h = row-right file (recordNo file 4 (rowNo s k)) (fields-right file p1 p3 p4 4 (rowNo s k) (omega arith) (row-place s k l h .0))
+
   row-fits : (s k : ℕ) → s < 16 → k < rowsIn file s → rowFits (getD (rowsAt s) k blankRow) ≡ true
-  row-fits s k l h =
-      rw (row-here s k h) (row-right file (recordNo file 4 (rowNo s k)) (fields-right file p1 p3 p4 4 (rowNo s k) (omega arith) (row-place s k l h .0)))
+  row-fits s k l h = rw (row-here s k h) (row-both s k l h .left)
 
   row-climbs : (s k : ℕ) → s < 16 → k < rowsIn file s
       → (eqb k 0 || ltb (rowKey (getD (rowsAt s) (k - 1) blankRow)) (rowKey (getD (rowsAt s) k blankRow))) ≡ true
@@ -221,7 +227,7 @@ module _ (file : List ℕ) (bytes : AreBytes file) (p1 : Passes1 file) (p3 : Pas
         blank = λ k m g. rw (getD-replicate 8 k blankRow blankRow m);
       })
 
-  states-few : (s : ℕ) → statesIn file s ≤ 32
+  pub states-few : (s : ℕ) → statesIn file s ≤ 32
   unfolding statesIn subjectIn
   states-few s =
       choose (λ (x : Subject). x .states ≤ 32) (ltb s n) (λ e. states-within file p1 p3 p4 s (ltb-true s n e) .high) (λ e. omega arith)
@@ -232,10 +238,10 @@ module _ (file : List ℕ) (bytes : AreBytes file) (p1 : Passes1 file) (p3 : Pas
   abbrev stateNo : ℕ → ℕ → ℕ
   stateNo s t = placeIn (statesIn file) s t
 
-  state-place : (s t : ℕ) → s < 16 → t < statesIn file s → stateNo s t < countOf file 2
+  pub state-place : (s t : ℕ) → s < 16 → t < statesIn file s → stateNo s t < countOf file 2
   state-place s t l h = omega (arith, pl .states, sum-has (statesIn file) s 16 l)
 
-  state-key : (s t : ℕ) → s < 16 → t < statesIn file s → stateKey (recordNo file 2 (stateNo s t)) ≡ t + 256 * s
+  pub state-key : (s t : ℕ) → s < 16 → t < statesIn file s → stateKey (recordNo file 2 (stateNo s t)) ≡ t + 256 * s
   unfolding stateNamed
   state-key s t l h =
       let few = states-few s in
@@ -272,23 +278,25 @@ module _ (file : List ℕ) (bytes : AreBytes file) (p1 : Passes1 file) (p3 : Pas
   abbrev exitNo : ℕ → ℕ → ℕ
   exitNo p x = placeIn (exitsIn file) p x
 
-  exit-place : (p x : ℕ) → p < 512 → x < exitsIn file p → exitNo p x < countOf file 3
+  pub exit-place : (p x : ℕ) → p < 512 → x < exitsIn file p → exitNo p x < countOf file 3
   exit-place p x l h = omega (arith, pl .exits, sum-has (exitsIn file) p 512 l)
 
-  -- that record names the state at place p
-  exit-key : (p x : ℕ) → p < 512 → x < 8 → x < exitsIn file p → stateKey (recordNo file 3 (exitNo p x)) ≡ p % 32 + 256 * (p / 32)
+  -- that record names the state at place p, and the exit
+  pub exit-key : (p x : ℕ) → p < 512 → x < 8 → x < exitsIn file p
+      → (stateKey (recordNo file 3 (exitNo p x)) ≡ p % 32 + 256 * (p / 32)) × (getD (recordNo file 3 (exitNo p x)) 2 0 ≡ x)
   unfolding exitsNamedIn exitsNamed
   exit-key p x l m h =
       let e = eqb-true (fullKey (recordNo file 3 (exitNo p x))) (x + 256 * (p % 32 + 256 * (p / 32))) (all-each _ (exitsIn file p) (pl .exits-named p l) x h) in
       key-apart (p % 32 + 256 * (p / 32)) x (stateKey (recordNo file 3 (exitNo p x))) (getD (recordNo file 3 (exitNo p x)) 2 0)
-      (omega arith) (a-byte 3 (exitNo p x) 2) e .0
+      (omega arith) (a-byte 3 (exitNo p x) 2) e
 
-  exit-fits : (p x : ℕ) → p < 512 → x < 8 → x < exitsIn file p → p % 32 < statesIn file (p / 32)
-      → exitFits (getD (stateRecordIn file p) 2 0) (exitOf (recordNo file 3 (exitNo p x))) ≡ true
-  exit-fits p x l m h has =
+  -- its fields are right, and what follows them is zero
+  pub exit-both : (p x : ℕ) → p < 512 → x < 8 → x < exitsIn file p → p % 32 < statesIn file (p / 32)
+      → Both (exitFits (getD (stateRecordIn file p) 2 0) (exitOf (recordNo file 3 (exitNo p x)))) (allZero (drop 6 (recordNo file 3 (exitNo p x))))
+  exit-both p x l m h has =
       let s : p / 32 < 16 = omega arith in
       exit-right file (recordNo file 3 (exitNo p x)) (getD (stateRecordIn file p) 2 0)
-      (ap (ownKind file) (exit-key p x l m h) ∙ own-kind (p / 32) (p % 32) s has) (kind-not-zero (p / 32) (p % 32) s has)
+      (ap (ownKind file) (exit-key p x l m h .0) ∙ own-kind (p / 32) (p % 32) s has) (kind-not-zero (p / 32) (p % 32) s has)
       (fields-right file p1 p3 p4 3 (exitNo p x) (omega arith) (exit-place p x l h))
 
   has-exit : (p : ℕ) {x : ℕ} → hasState file p ≡ true → x < getD (stateRecordIn file p) 3 0 → x < exitsIn file p
@@ -333,7 +341,7 @@ module _ (file : List ℕ) (bytes : AreBytes file) (p1 : Passes1 file) (p3 : Pas
           gone = λ g. absurd (omega arith);
           exit = λ x m g.
               let i = has-exit p e g in
-              rw (in-there 8 blankExit exits _ x m g, exit-byte 3 p x l i, exit-byte 4 p x l i, exit-byte 5 p x l i) (exit-fits p x l m i h);
+              rw (in-there 8 blankExit exits _ x m g, exit-byte 3 p x l i, exit-byte 4 p x l i, exit-byte 5 p x l i) (exit-both p x l m i h .left);
           blank = λ x m g. rw (in-gone 8 blankExit exits _ x m g);
         })
         (λ e.
@@ -348,12 +356,12 @@ module _ (file : List ℕ) (bytes : AreBytes file) (p1 : Passes1 file) (p3 : Pas
 -- ---- what the model of a file has at a place
 
 module _ (file : List ℕ) where
-  stored-at : (p : ℕ) → p < 512 → storedAt (modelOf file) p ≡ storedIn file p
+  pub stored-at : (p : ℕ) → p < 512 → storedAt (modelOf file) p ≡ storedIn file p
   unfolding modelOf
   stored-at p l = table-at (storedIn file) 512 p blankStored l
 
   -- as many exits as the state's record says
-  stored-exits : (p : ℕ) → p < 512 → stateAt (modelOf file) p .exits ≡ exitsIn file p
+  pub stored-exits : (p : ℕ) → p < 512 → stateAt (modelOf file) p .exits ≡ exitsIn file p
   unfolding withExits storedIn storedOf exitsIn
   stored-exits p l = ap (λ (st : Stored). st .exits) (stored-at p l) ∙ go (hasState file p) refl
     where
@@ -362,7 +370,7 @@ module _ (file : List ℕ) where
       go false e = rw e
 
   -- so the exits of the states before place p are those of the file
-  before-is : (p : ℕ) → p ≤ 512 → exitsBefore (modelOf file) p ≡ sumBelow (exitsIn file) p
+  pub before-is : (p : ℕ) → p ≤ 512 → exitsBefore (modelOf file) p ≡ sumBelow (exitsIn file) p
   before-is p l = sum-same _ (exitsIn file) p (λ q k. stored-exits q (omega arith))
 
   all-is : exitsInAll (modelOf file) ≡ sumBelow (exitsIn file) 512

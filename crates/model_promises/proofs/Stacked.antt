@@ -6,32 +6,34 @@ use Prim.Native.Nat.{ℕ, zero, suc, _+_, _-_, _*_, _/_, _%_, _≤_, _<_}
 use native.Mathlib.Numerals.{add-one}
 use native.Mathlib.Omega.{arith}
 use borrow.Author.Tests.{ltb-true, ltb-false, lt-ltb, le-ltb, leb-true, eqb-true, eq-eqb, ne-eqb}
-use lib.Dec.{ltb, eqb}
+use lib.Dec.{ltb, leb, eqb}
 use lib.ListN.{length, getD, drop, length-take, length-drop}
 use Rattle.sets.specs.Below.{sumBelow}
 use Rattle.sets.specs.Groups.{placeIn}
 use Rattle.sets.specs.Tests.{within, allZero}
 use Rattle.sets.proofs.Tests.{Within, within-is, and-both, not-both}
-use Rattle.sets.proofs.Below.{all-each}
+use Rattle.sets.proofs.Below.{all-each, sum-has}
 use Rattle.sets.proofs.Groups.{spot}
-use Rattle.blocks.specs.Blocks.{blocks, blockOf, numberIn, usedIn, bodyIn, roomRight, kindOf, usedOf, recordIn, recordOf, firstBlock, countOf, recordFrom, recordNo}
+use Rattle.blocks.specs.Blocks.{blocks, blockOf, usedIn, roomRight, kindOf, usedOf, recordIn, recordOf, firstBlock, countOf, recordFrom, recordNo}
 use Rattle.blocks.proofs.BlockLaws.{block-length, record-here}
 use Rattle.model.specs.Decoded.{subjectsIn}
 use Rattle.model.specs.Records.{fullKey, orderOf}
 use Rattle.model.specs.Stages.{lengthRight, kindRight, fullRight, blockRight, recordBefore, headerRight, fieldsRight, recordRight}
 use Rattle.model_promises.specs.Loads.{Passes1, Passes3, Passes4}
+use Rattle.model_promises.proofs.Told.{Room, room}
 use Rattle.model_promises.proofs.Ordered.{countLess, never-falls, less-first}
 use Rattle.sets.proofs.Pieces.{sum-is}
 
--- ---- blocks whose kinds never fall, each full but the last of its kind
+-- ---- blocks whose kinds never fall, none empty, each full but the last of its kind
 
 pub record Stacked (kind used : ℕ → ℕ) (n : ℕ) : Type 0 where
+  pub some : (b : ℕ) → b < n → 1 ≤ used b
   pub few : (b : ℕ) → b < n → used b ≤ 42
   pub rises : (b : ℕ) → suc b < n → kind b ≤ kind (suc b)
   pub full : (b : ℕ) → suc b < n → kind (suc b) ≡ kind b → used b ≡ 42
 
 -- how many records of kind k block b has
-abbrev ofKind : (ℕ → ℕ) → (ℕ → ℕ) → ℕ → ℕ → ℕ
+abbrev pub ofKind : (ℕ → ℕ) → (ℕ → ℕ) → ℕ → ℕ → ℕ
 ofKind kind used k b = cond (eqb (kind b) k) (used b) 0
 
 -- record j of kind k is record i of block b
@@ -65,6 +67,13 @@ module _ {kind used : ℕ → ℕ} {n : ℕ} (s : Stacked kind used n) (k : ℕ)
           let next = between b (suc c) h e l (omega arith) in
           rw (eq-eqb (kind c) k here) (omega (arith, s .full c (omega arith) (next ∙ sym here)))
 
+  -- a block of kind k does not stand before the first, and its records are among those of the kind
+  pub from-first : (b : ℕ) → b < n → kind b ≡ k → countLess kind n k ≤ b
+  from-first b h e = ltb-false b (countLess kind n k) (sym (less-first kind n (s .rises) k b h) ∙ le-ltb (kind b) k (omega arith))
+
+  pub among : (b : ℕ) → b < n → kind b ≡ k → (b - countLess kind n k) * 42 + used b ≤ sumBelow (ofKind kind used k) n
+  among b h e = omega (arith, before b h e, rw (eq-eqb (kind b) k e) at (sum-has (ofKind kind used k) b n h))
+
   pub stand : (j : ℕ) → j < sumBelow (ofKind kind used k) n → Stand kind used n k j
   stand j l = let a = spot (ofKind kind used k) n j l in go (a .g) (a .k) (a .group) (a .inside) (a .place) (eqb (kind (a .g)) k) refl
     where
@@ -77,26 +86,22 @@ module _ {kind used : ℕ → ℕ} {n : ℕ} (s : Stacked kind used n) (k : ℕ)
             there = h;
             its-kind = e;
             inside = rw t at m;
-            start = ltb-false b (countLess kind n k) (sym (less-first kind n (s .rises) k b h) ∙ le-ltb (kind b) k (omega arith));
+            start = from-first b h e;
             place = omega (arith, before b h e);
           }
       go b i h m p false t = absurd (omega (arith, rw t at m))
 
 -- ---- what stage 3 says of a block
 
-used-within : (b : ℕ) (block : List ℕ) → roomRight b block ≡ true → Within 1 (usedIn block) 42
-unfolding roomRight
-used-within b block h =
-    let c = and-both _ (allZero (drop (4 + 12 * usedIn block) (bodyIn block))) h in
-    within-is 1 (usedIn block) 42 (and-both (eqb (numberIn block) b) _ (c .left) .right)
-
-first-kind : (before kind : ℕ) → kindRight 0 before kind ≡ true → kind ≡ 1
+pub first-kind : (before kind : ℕ) → kindRight 0 before kind ≡ true → kind ≡ 1
 unfolding kindRight
 first-kind before kind h = eqb-true kind 1 h
 
-later-kind : (b before kind : ℕ) → kindRight (suc b) before kind ≡ true → before ≤ kind
+pub later-kind : (b before kind : ℕ) → kindRight (suc b) before kind ≡ true → Within 2 kind 4 × (before ≤ kind)
 unfolding kindRight
-later-kind b before kind h = leb-true before kind (and-both (within 2 kind 4) _ (rw (ne-eqb (suc b) 0 (λ e. omega arith)) at h) .right)
+later-kind b before kind h =
+    let c = and-both (within 2 kind 4) (leb before kind) (rw (ne-eqb (suc b) 0 (λ e. omega arith)) at h) in
+    (within-is 2 kind 4 (c .left), leb-true before kind (c .right))
 
 full-used : (used kind after : ℕ) → fullRight used kind after ≡ true → after ≡ kind → used ≡ 42
 unfolding fullRight
@@ -107,18 +112,18 @@ full-used used kind after h e = go (eqb used 42) refl
     go false t = not-both (rw (t, eq-eqb after kind e) at h) refl
 
 -- the three parts of stage 3
-record Parts (file : List ℕ) (b : ℕ) : Type 0 where
-  used : Within 1 (usedOf file b) 42
-  kind : kindRight b (kindOf file (b - 1)) (kindOf file b) ≡ true
-  full : kindOf file (b + 1) ≡ kindOf file b → usedOf file b ≡ 42
+pub record Parts (file : List ℕ) (b : ℕ) : Type 0 where
+  pub room : Room b (blockOf file b)
+  pub kind : kindRight b (kindOf file (b - 1)) (kindOf file b) ≡ true
+  pub full : kindOf file (b + 1) ≡ kindOf file b → usedOf file b ≡ 42
 
-parts : (file : List ℕ) (b : ℕ) → blockRight file b ≡ true → Parts file b
+pub parts : (file : List ℕ) (b : ℕ) → blockRight file b ≡ true → Parts file b
 unfolding blockRight
 parts file b h =
     let d = and-both (roomRight b (blockOf file b) && kindRight b (kindOf file (b - 1)) (kindOf file b)) _ h in
     let c = and-both (roomRight b (blockOf file b)) _ (d .left) in
     record {
-      used = used-within b (blockOf file b) (c .left);
+      room = room b (blockOf file b) (c .left);
       kind = c .right;
       full = full-used (usedOf file b) (kindOf file b) (kindOf file (b + 1)) (d .right);
     }
@@ -135,11 +140,20 @@ header-subjects used r h =
     let c = and-both (within 1 (getD r 0 0) 16) (eqb used (getD r 0 0 + 1)) (and-both _ (allZero (drop 3 r)) h .left) in
     (within-is 1 (getD r 0 0) 16 (c .left), eqb-true _ _ (c .right))
 
-header-states : (used s : ℕ) (r : List ℕ) → headerRight used (s + 1) r ≡ true → Within 1 (getD r 1 0) 32
+header-states : (used s : ℕ) (r : List ℕ) → headerRight used (s + 1) r ≡ true → (getD r 0 0 ≡ s) × Within 1 (getD r 1 0) 32
 unfolding headerRight
 header-states used s r h =
     let c = and-both (eqb (getD r 0 0 + 1) (s + 1) && within 1 (getD r 1 0) 32) (allZero (drop 3 r)) (rw (ne-eqb (s + 1) 0 (λ e. omega arith)) at h) in
-    within-is 1 (getD r 1 0) 32 (and-both (eqb (getD r 0 0 + 1) (s + 1)) _ (c .left) .right)
+    let d = and-both (eqb (getD r 0 0 + 1) (s + 1)) (within 1 (getD r 1 0) 32) (c .left) in
+    (omega (arith, eqb-true (getD r 0 0 + 1) (s + 1) (d .left)), within-is 1 (getD r 1 0) 32 (d .right))
+
+header-zeros : (used i : ℕ) (r : List ℕ) → headerRight used i r ≡ true → allZero (drop 3 r) ≡ true
+unfolding headerRight
+header-zeros used i r h =
+    and-both
+    (cond (eqb i 0) (within 1 (getD r 0 0) 16 && eqb used (getD r 0 0 + 1)) (eqb (getD r 0 0 + 1) i && within 1 (getD r 1 0) 32))
+    (allZero (drop 3 r))
+    h .right
 
 later-is : (file : List ℕ) (b i k : ℕ) → kindOf file b ≡ k → 2 ≤ k → recordRight file b i ≡ true
     → (orderOf k (recordBefore file b i) < orderOf k (recordOf file b i)) × (fieldsRight file k (recordOf file b i) ≡ true)
@@ -159,7 +173,7 @@ unfolding orderOf
 key-climbs k r t l a b h = let c = rw (a, b, ne-eqb k 2 (λ e. omega arith)) at h in omega arith
 
 module _ (file : List ℕ) (p1 : Passes1 file) (p3 : Passes3 file) (p4 : Passes4 file) where
-  some-block : 0 < blocks file
+  pub some-block : 0 < blocks file
   unfolding lengthRight
   some-block = within-is 1 (blocks file) 43 (and-both (eqb (length file % 512) 0) _ p1 .right) .low
 
@@ -168,20 +182,32 @@ module _ (file : List ℕ) (p1 : Passes1 file) (p3 : Passes3 file) (p4 : Passes4
   header i l =
       header-is file 0 i (first-kind _ _ (parts file 0 (p3 0 some-block) .kind)) (all-each (recordRight file 0) (usedOf file 0) (p4 0 some-block) i l)
 
-  subjects-header : Within 1 (subjectsIn file) 16 × (usedOf file 0 ≡ subjectsIn file + 1)
-  subjects-header = header-subjects (usedOf file 0) (recordOf file 0 0) (header 0 (parts file 0 (p3 0 some-block) .used .low))
+  pub subjects-header : Within 1 (subjectsIn file) 16 × (usedOf file 0 ≡ subjectsIn file + 1)
+  subjects-header = header-subjects (usedOf file 0) (recordOf file 0 0) (header 0 (parts file 0 (p3 0 some-block) .room .used .low))
+
+  subject-header : (s : ℕ) → s < subjectsIn file → (getD (recordOf file 0 (s + 1)) 0 0 ≡ s) × Within 1 (getD (recordOf file 0 (s + 1)) 1 0) 32
+  subject-header s l = header-states (usedOf file 0) s (recordOf file 0 (s + 1)) (header (s + 1) (omega (arith, subjects-header .1)))
+
+  -- the header of a subject names it
+  pub header-names : (s : ℕ) → s < subjectsIn file → getD (recordOf file 0 (s + 1)) 0 0 ≡ s
+  header-names s l = subject-header s l .0
+
+  -- past its three bytes a header is zero
+  pub header-rest : (i : ℕ) → i ≤ subjectsIn file → allZero (drop 3 (recordOf file 0 i)) ≡ true
+  header-rest i l = header-zeros (usedOf file 0) i (recordOf file 0 i) (header i (omega (arith, subjects-header .1)))
 
   pub subjects-within : Within 1 (subjectsIn file) 16
   subjects-within = subjects-header .0
 
   pub states-within : (s : ℕ) → s < subjectsIn file → Within 1 (getD (recordOf file 0 (s + 1)) 1 0) 32
-  states-within s l = header-states (usedOf file 0) s (recordOf file 0 (s + 1)) (header (s + 1) (omega (arith, subjects-header .1)))
+  states-within s l = subject-header s l .1
 
-  stacked : Stacked (kindOf file) (usedOf file) (blocks file)
+  pub stacked : Stacked (kindOf file) (usedOf file) (blocks file)
   stacked =
       record {
-        few = λ b l. parts file b (p3 b l) .used .high;
-        rises = λ b l. later-kind b (kindOf file b) (kindOf file (suc b)) (rw (let e : suc b - 1 ≡ b = omega arith in e) at (parts file (suc b) (p3 (suc b) l) .kind));
+        some = λ b l. parts file b (p3 b l) .room .used .low;
+        few = λ b l. parts file b (p3 b l) .room .used .high;
+        rises = λ b l. later-kind b (kindOf file b) (kindOf file (suc b)) (rw (let e : suc b - 1 ≡ b = omega arith in e) at (parts file (suc b) (p3 (suc b) l) .kind)) .1;
         full = λ b l e. parts file b (p3 b (omega arith)) .full (ap (kindOf file) (add-one b) ∙ e);
       }
 
@@ -189,7 +215,7 @@ module _ (file : List ℕ) (p1 : Passes1 file) (p3 : Passes3 file) (p4 : Passes4
   abbrev Stands : ℕ → ℕ → Type 0
   Stands k j = Stand (kindOf file) (usedOf file) (blocks file) k j
 
-  stands : (k j : ℕ) → j < countOf file k → Stands k j
+  pub stands : (k j : ℕ) → j < countOf file k → Stands k j
   unfolding countOf
   stands k j l = stand stacked k j l
 
@@ -203,8 +229,17 @@ module _ (file : List ℕ) (p1 : Passes1 file) (p3 : Passes3 file) (p4 : Passes4
       let c : j % 42 ≡ i = omega arith in
       rw (a, c)
 
-  here : (k j : ℕ) (s : Stands k j) → recordNo file k j ≡ recordOf file (s .b) (s .i)
+  pub here : (k j : ℕ) (s : Stands k j) → recordNo file k j ≡ recordOf file (s .b) (s .i)
   here k j s = no-is k j (s .b) (s .i) (s .start) (s .place) (omega (arith, s .inside, stacked .few (s .b) (s .there)))
+
+  -- record i of block b, by its kind and its number
+  pub record-at : (k b i : ℕ) → b < blocks file → kindOf file b ≡ k → i < usedOf file b
+      → ((b - firstBlock file k) * 42 + i < countOf file k) × (recordNo file k ((b - firstBlock file k) * 42 + i) ≡ recordOf file b i)
+  unfolding firstBlock countOf
+  record-at k b i l e h = (
+    omega (arith, among stacked k b l e),
+    no-is k ((b - firstBlock file k) * 42 + i) b i (from-first stacked k b l e) refl (omega (arith, stacked .few b l)),
+  )
 
   -- the record before record j + 1 is record j
   before-is : (k j : ℕ) (s : Stands k (suc j)) → recordBefore file (s .b) (s .i) ≡ recordNo file k j
@@ -228,7 +263,7 @@ module _ (file : List ℕ) (p1 : Passes1 file) (p3 : Passes3 file) (p4 : Passes4
   pub fields-right : (k j : ℕ) → 2 ≤ k → j < countOf file k → fieldsRight file k (recordNo file k j) ≡ true
   fields-right k j l h = let s = stands k j h in rw (here k j s) (stage-four k j l s .1)
 
-  twelve : (k j : ℕ) → j < countOf file k → length (recordNo file k j) ≡ 12
+  pub twelve : (k j : ℕ) → j < countOf file k → length (recordNo file k j) ≡ 12
   unfolding recordOf
   twelve k j h =
       let s = stands k j h in

@@ -50,6 +50,10 @@ ValidLoads = (m : Model) → Held m → valid m ≡ true → AreBytes (fileOf m)
 abbrev pub ValidExactly : Type 0
 ValidExactly = (m : Model) → Held m → (valid m ≡ true) ↔ ((file : List ℕ) × AreBytes file × LoadsTo file m)
 
+-- one file for each model: bytes load to a model that the machine can hold exactly when the model is valid and they are its file
+abbrev pub OneFile : Type 0
+OneFile = (file : List ℕ) (m : Model) → AreBytes file → Held m → LoadsTo file m ↔ ((valid m ≡ true) × (file ≡ fileOf m))
+
 -- model P loads from its own file
 abbrev pub PLoads : Type 0
 PLoads = AreBytes (fileOf modelP) × LoadsTo (fileOf modelP) modelP

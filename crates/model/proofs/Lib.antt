@@ -7,3 +7,6 @@ pub mod Places
 pub mod Packed
 pub mod Facts
 pub mod Lines
+pub mod WritingLaws
+pub mod KindLaws
+pub mod FileLaws

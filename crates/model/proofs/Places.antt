@@ -1,7 +1,7 @@
 -- Where the records stand in a file made of records: block b is block q of kind k, and has the records of that kind from q times 42 on.
 use mathlib.Core.Path.{_≡_, refl, sym, ap, _∙_}
 use mathlib.Core.Bool.{Bool, true, false, not, cond}
-use mathlib.Core.List.{List, [], append-nil}
+use mathlib.Core.List.{List, [], _++_, append-nil}
 use Prim.Native.Nat.{ℕ, zero, suc, _+_, _-_, _*_, _/_, _%_, _≤_, _<_, min}
 use native.Mathlib.Omega.{arith}
 use borrow.Author.Tests.{ltb-true, ltb-false, lt-ltb, le-ltb, eq-eqb, ne-eqb}
@@ -11,10 +11,12 @@ use Rattle.sets.proofs.Bytes.{Bytes, bytes-by}
 use Rattle.sets.specs.Below.{sumBelow, table}
 use Rattle.sets.proofs.Below.{sum-grows, length-table, table-at}
 use Rattle.blocks.specs.Blocks.{blocks, blockOf, kindOf, usedOf, recordOf, firstBlock, countOf, recordFrom, recordNo}
-use Rattle.sets.specs.Stores.{joined}
+use Rattle.sets.specs.Stores.{joined, eachOf}
 use Rattle.blocks.specs.Made.{blockWith}
+use Rattle.sets.proofs.Stores.{each-add, each-same, length-each}
+use Rattle.model.specs.inner.Lines.{kindBlocks}
 use Rattle.model.specs.File.{blocksFor, startOf, kindAtBlock, recordsAtBlock, fileWith}
-use Rattle.sets.proofs.Pieces.{part, length-part, part-at, Each, length-joined, piece-at, joined-bytes, sum-is, count-is, leb-not}
+use Rattle.sets.proofs.Pieces.{part, length-part, part-at, Each, length-joined, piece-at, joined-bytes, joined-table, sum-is, count-is, leb-not}
 use Rattle.blocks.proofs.Made.{Fits, length-block, kind-in, used-in, record-in, block-bytes}
 
 -- ---- kinds and their blocks
@@ -90,7 +92,7 @@ pub record Twelve (rs : ℕ → List (List ℕ)) : Type 0 where
 
 module _ {rs : ℕ → List (List ℕ)} (t : Twelve rs) where
   -- block b as it is made
-  made : ℕ → List ℕ
+  pub made : ℕ → List ℕ
   made b = blockWith b (kindAtBlock rs b) (recordsAtBlock rs b)
 
   -- by its place: the records from q times 42 on
@@ -101,10 +103,32 @@ module _ {rs : ℕ → List (List ℕ)} (t : Twelve rs) where
       rw (kind-is p, e)
 
   -- a block can hold them
+  parts-fit : (k q : ℕ) → Fits (part 42 (rs k) q)
+  parts-fit k q =
+      let e = length-part 42 (rs k) q in
+      record { few = omega arith; twelve = λ i h. rw (part-at 42 (rs k) q [] i h) (t .each k _ (omega arith)) }
+
   pub fits : {b : ℕ} (p : Place rs 5 b) → Fits (part 42 (rs (p .k)) (p .q))
-  fits p =
-      let e = length-part 42 (rs (p .k)) (p .q) in
-      record { few = omega arith; twelve = λ i h. rw (part-at 42 (rs (p .k)) (p .q) [] i h) (t .each (p .k) _ (omega arith)) }
+  fits p = parts-fit (p .k) (p .q)
+
+  -- every block has 512 bytes
+  made-long : (b : ℕ) → length (made b) ≡ 512
+  unfolding made recordsAtBlock
+  made-long b =
+      let k = kindAtBlock rs b in
+      length-block b k (parts-fit k (b - startOf rs k))
+
+  -- the blocks of one more kind
+  pub kind-more : (k : ℕ) → k ≤ 4 → eachOf made (startOf rs (suc k)) ≡ eachOf made (startOf rs k) ++ kindBlocks rs k
+  unfolding kindBlocks
+  kind-more k h =
+      ap (eachOf made) (start-more rs k)
+      ∙ each-add made (startOf rs k) (blocksFor (length (rs k)))
+      ∙ ap (λ (x : List ℕ). eachOf made (startOf rs k) ++ x)
+      (each-same _ _ (blocksFor (length (rs k))) (λ q l. made-is (record { k = k; q = q; below = omega arith; at = refl; inside = omega arith })))
+
+  pub length-made : (n : ℕ) → length (eachOf made n) ≡ 512 * n
+  length-made = length-each made 512 made-long
 
   -- the blocks of the file
   all-made : List (List ℕ)
@@ -126,6 +150,10 @@ module _ {rs : ℕ → List (List ℕ)} (t : Twelve rs) where
   file-is : fileWith rs ≡ joined all-made
   unfolding fileWith all-made made
   file-is = refl
+
+  pub file-each : fileWith rs ≡ eachOf made (startOf rs 5)
+  unfolding all-made
+  file-each = file-is ∙ joined-table made (startOf rs 5)
 
   -- the file has that many blocks
   pub length-file : length (fileWith rs) ≡ startOf rs 5 * 512

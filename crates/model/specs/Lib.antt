@@ -6,3 +6,5 @@ pub mod Decoded
 pub mod Valid
 pub mod Loading
 pub mod File
+pub mod Writing
+pub mod inner

@@ -1,12 +1,14 @@
 // The file reader: a model file's bytes, the model they say, and whether a model is valid.
 mod decoded;
 mod loading;
+mod made;
 mod records;
 mod rules;
 mod sizes;
 mod stages;
 mod unpacked;
 mod valid;
+mod writing;
 
 pub use blocks::Verdict;
 pub use blocks::check;
@@ -22,6 +24,7 @@ pub use sizes::MOST_SUBJECTS;
 pub use sizes::STATE_PLACES;
 pub use unpacked::unpack;
 pub use valid::is_valid;
+pub use writing::write;
 
 // An exit of a state: where it leads; of a receive the sender and the type, of a send the type.
 pub struct Exit {
@@ -81,6 +84,13 @@ pub struct Model {
     pub targets: [u8; MOST_EXITS_IN_ALL],
     pub senders: [u8; MOST_EXITS_IN_ALL],
     pub types: [u8; MOST_EXITS_IN_ALL],
+}
+
+// What writing a model came to: the length of its file in bytes, or why nothing was written.
+pub enum Written {
+    Bytes(usize),
+    NotValid,
+    TooShort,
 }
 
 // The model beside the verdict: the empty one where the file is refused.

@@ -1,7 +1,9 @@
 // The sizes of a model, each said once.
 
-// Bytes of a block, records of a block, and blocks of a file.
+// Bytes of a block and of a record, records of a block, and blocks of a file.
 pub(crate) const BLOCK_BYTES: usize = 512;
+
+pub(crate) const RECORD_BYTES: usize = 12;
 
 pub(crate) const MOST_RECORDS: u8 = 42;
 

@@ -12,7 +12,7 @@ use Rattle.sets.specs.Below.{sumBelow, tableFrom, table}
 use Rattle.sets.specs.Groups.{placeIn, lined}
 use Rattle.sets.specs.Tests.{wordAt, allZero}
 use Rattle.sets.proofs.Below.{table-at, table-of, part-table, sum-same, none-count}
-use Rattle.sets.proofs.Bytes.{byte-at, bytes-by}
+use Rattle.sets.proofs.Bytes.{Bytes, byte-at, bytes-by}
 use Rattle.sets.proofs.Groups.{lined-at, spot}
 use Rattle.blocks.specs.Blocks.{blocks, kindOf, usedOf, recordOf, firstBlock, recordNo, countOf}
 use Rattle.blocks.proofs.BlockLaws.{record-from-bytes}
@@ -26,7 +26,7 @@ use Rattle.model.specs.declared.Model.{Model}
 use Rattle.model.specs.declared.Subject.{Subject}
 use Rattle.model.proofs.DecodedLaws.{states-at}
 use Rattle.model.proofs.Facts.{GoodModel, statesOf, rowsOf, exitsOf, has-state, exit-is}
-use Rattle.model.proofs.Lines.{Twelve, length-headers, length-states, length-exits, length-limits}
+use Rattle.model.proofs.Lines.{length-headers, length-states, length-exits, length-limits}
 use Rattle.sets.proofs.Pieces.{count-is}
 use Rattle.model_promises.specs.Loads.{AreBytes, Passes1, Passes3, Passes4}
 use Rattle.model_promises.proofs.Back.{all-blank}
@@ -44,6 +44,11 @@ word-low a b l = omega arith
 
 word-high : (a b : ℕ) → a < 256 → (a + 256 * b) / 256 ≡ b
 word-high a b l = omega arith
+
+-- a record: twelve bytes
+record Twelve (r : List ℕ) : Type 0 where
+  long : length r ≡ 12
+  bytes : Bytes r
 
 -- a record is its first k bytes and what follows them, where that is zero
 cut : (k : ℕ) (r : List ℕ) → k ≤ 12 → Twelve r → allZero (drop k r) ≡ true → table (λ i. getD r (0 + i) 0) k ++ replicate (12 - k) 0 ≡ r
@@ -308,10 +313,10 @@ module _ (file : List ℕ) (bytes : AreBytes file) (p1 : Passes1 file) (p3 : Pas
     where
       counts : (k : ℕ) → 1 ≤ k → k ≤ 4 → countOf file k ≡ length (recordsOf m k)
       counts zero lo hi = absurd (omega arith)
-      counts (suc zero) lo hi = count-headers ∙ ap suc (sym subjects-are) ∙ sym (length-headers m held good)
-      counts (suc (suc zero)) lo hi = pl .states ∙ sum-same (statesIn file) (statesOf m) 16 states-same ∙ sym (length-states m held good)
-      counts (suc (suc (suc zero))) lo hi = pl .exits ∙ sum-same (exitsIn file) (exitsOf m) 512 exits-same ∙ sym (length-exits m held good)
-      counts (suc (suc (suc (suc zero)))) lo hi = count-limits ∙ sum-same (rowsIn file) (rowsOf m) 16 rows-same ∙ sym (length-limits m held good)
+      counts (suc zero) lo hi = count-headers ∙ ap suc (sym subjects-are) ∙ sym (length-headers m)
+      counts (suc (suc zero)) lo hi = pl .states ∙ sum-same (statesIn file) (statesOf m) 16 states-same ∙ sym (length-states m)
+      counts (suc (suc (suc zero))) lo hi = pl .exits ∙ sum-same (exitsIn file) (exitsOf m) 512 exits-same ∙ sym (length-exits m)
+      counts (suc (suc (suc (suc zero)))) lo hi = count-limits ∙ sum-same (rowsIn file) (rowsOf m) 16 rows-same ∙ sym (length-limits m)
       counts (suc (suc (suc (suc (suc k))))) lo hi = absurd (omega arith)
 
       records : (k j : ℕ) → 1 ≤ k → k ≤ 4 → j < countOf file k → recordNo file k j ≡ getD (recordsOf m k) j []

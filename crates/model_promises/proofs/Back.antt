@@ -72,15 +72,15 @@ module _ (m : Model) (held : Held m) (good : GoodModel m) (file : List ℕ) (pk 
 
   pub count-states : countOf file 2 ≡ sumBelow states 16
   unfolding recordsOf
-  count-states = pk .counts 2 (omega arith) (omega arith) ∙ length-states m held good
+  count-states = pk .counts 2 (omega arith) (omega arith) ∙ length-states m
 
   count-exits : countOf file 3 ≡ sumBelow exits 512
   unfolding recordsOf
-  count-exits = pk .counts 3 (omega arith) (omega arith) ∙ length-exits m held good
+  count-exits = pk .counts 3 (omega arith) (omega arith) ∙ length-exits m
 
   count-limits : countOf file 4 ≡ sumBelow rows 16
   unfolding recordsOf
-  count-limits = pk .counts 4 (omega arith) (omega arith) ∙ length-limits m held good
+  count-limits = pk .counts 4 (omega arith) (omega arith) ∙ length-limits m
 
   pub state-record : (s t : ℕ) → s < 16 → t < states s → recordNo file 2 (placeIn states s t) ≡ stateRecord s t (stateAt m (s * 32 + t))
   unfolding recordsOf stateRecords

@@ -163,7 +163,7 @@ module _ (m : Model) (held : Held m) (good : GoodModel m) (file : List ℕ) (pk 
 
   headers-fit : (i : ℕ) → i < length (headers m) → headerRight (usedOf file 0) i (getD (headers m) i []) ≡ true
   unfolding headers recordsOf
-  headers-fit zero l = header-fields (usedOf file 0) m (good .low) (good .high) (pk .header-count ∙ length-headers m held good)
+  headers-fit zero l = header-fields (usedOf file 0) m (good .low) (good .high) (pk .header-count ∙ length-headers m)
   headers-fit (suc s) l =
       let h = good .high in
       let k = length-table (λ s. subjectRecord s (subjectAt m s)) (m .n) in

@@ -1,0 +1,125 @@
+use mathlib.Core.Path.{_≡_, refl, sym, ap, _∙_}
+use mathlib.Core.Bool.{true}
+use mathlib.Core.List.{List, []}
+use Prim.Native.Nat.{ℕ, _+_, _*_, _-_, _≤_, _<_}
+use native.Mathlib.Omega.{arith}
+use borrow.Author.Needs.{needs}
+use lib.ListN.{length}
+use Rattle.sets.specs.Groups.{placeIn}
+use Rattle.model.specs.File.{stateRecord, recordsOf, startOf}
+use Rattle.model.specs.Records.{withExits}
+use Rattle.model.specs.Valid.{stateAt}
+use Rattle.model.specs.declared.Model.{Model}
+use Rattle.model.proofs.Facts.{statesOf, model-good}
+use Rattle.model.proofs.KindLaws.{Ready, Lay, ready-for, states-lined, state-item, items-start, item-put, item-there, group-end, items-there, items-end}
+use Rattle.model.proofs.writing.write_states.Statement.{statement}
+use Rattle.model.proofs.writing.write_states.Tie as tie
+
+abbrev Inv-loop2 : tie.InvT-loop2
+Inv-loop2 buffer₀ block m line₀ s states t₀ buffer line t =
+    (t ≤ states) × (length buffer ≡ length buffer₀)
+    × ((old : List ℕ) → Ready m 2 old → Lay m 2 old (placeIn (statesOf m) s 0) line₀ buffer₀ → Lay m 2 old (placeIn (statesOf m) s t) line buffer)
+
+abbrev μ-loop2 : tie.MeasureT-loop2
+μ-loop2 buffer₀ block m line₀ s states t₀ buffer line t = states - t
+
+abbrev Inv-loop : tie.InvT-loop
+Inv-loop buffer₀ block m line₀ s₀ buffer line s = (s ≤ 16) × (length buffer ≡ length buffer₀) × Lay m 2 buffer₀ (placeIn (statesOf m) s 0) line buffer
+
+abbrev μ-loop : tie.MeasureT-loop
+μ-loop buffer₀ block m line₀ s₀ buffer line s = 16 - s
+
+loop-holds : tie.Need-loop-holds Inv-loop2 μ-loop2 Inv-loop μ-loop
+loop-holds c = (search needs, refl, items-start _ 2 _ _ _ (c .before .pre .1))
+
+loop2-holds : tie.Need-loop2-holds Inv-loop2 μ-loop2 Inv-loop μ-loop
+loop2-holds c = (search needs, refl, λ old ready lay. lay)
+
+element-copy-out-st : tie.Need-element-copy-out-st Inv-loop2 μ-loop2 Inv-loop μ-loop
+element-copy-out-st c =
+    let turn = c .before .before .before .before in
+    let few = model-good _ (turn .before .before .before .pre .0) .subject _ (turn .loop-test .taken) .states in
+    omega (arith, c .loop2-test .taken, turn .loop-test .taken)
+
+put-record-requires : tie.Need-put-record-requires Inv-loop2 μ-loop2 Inv-loop μ-loop
+put-record-requires c κs =
+    let inner = c .before .before .before .before in
+    let turn = inner .before .before .before in
+    let s = turn .before .before .before in
+    let m = s .args .t1 in
+    let ready = ready-for m 2 (s .args .buffer .now) (s .pre .0) (omega arith) (s .pre .2) in
+    item-there ready (statesOf m) _ 16 (states-lined m) _ _ _ _ (turn .loop-test .taken) (inner .loop2 .inv .0) (inner .loop2 .inv .2 _ ready (turn .before .loop .inv .2))
+
+loop2-again : tie.Need-loop2-again Inv-loop2 μ-loop2 Inv-loop μ-loop
+loop2-again c =
+    let put = c .before .before in
+    let made = put .before in
+    let inner = made .before .before .before .before in
+    let turn = inner .before .before .before in
+    let m = turn .before .before .before .args .t1 in
+    let t = made .before .before .before .loop2-test .taken in (
+      search needs,
+      put .put-record .kept .0 ∙ inner .loop2 .inv .1,
+      λ old ready lay. item-put ready (statesOf m) _ 16 (states-lined m) _ _ _ _ _ _ _ (turn .loop-test .taken) t (made .state-record .ensures ∙ state-item m _ _ _) (put .put-record .ensures .0) (put .put-record .ensures .1) (inner .loop2 .inv .2 old ready lay),
+    )
+
+loop-again : tie.Need-loop-again Inv-loop2 μ-loop2 Inv-loop μ-loop
+loop-again c =
+    let inner = c .before .loop2 .inv in
+    let turn = c .before .before .before .before in
+    let s = turn .before .before .before in
+    let m = s .args .t1 in
+    let ready = ready-for m 2 (s .args .buffer .now) (s .pre .0) (omega arith) (s .pre .2) in
+    let inv = turn .before .loop .inv in
+    (search needs, inner .1 ∙ inv .1, group-end ready (statesOf m) _ 16 (states-lined m) _ _ _ _ (inner .0) (c .loop2-test .left) (inner .2 _ ready (inv .2)))
+
+end-kind-requires : tie.Need-end-kind-requires Inv-loop2 μ-loop2 Inv-loop μ-loop
+end-kind-requires c κs =
+    let s = c .before .before .before .before in
+    let m = s .args .t1 in
+    let ready = ready-for m 2 (s .args .buffer .now) (s .pre .0) (omega arith) (s .pre .2) in
+    let inv = c .before .before .loop .inv in
+    items-there ready (statesOf m) _ 16 (states-lined m) _ _ _ (inv .0) (c .before .loop-test .left) (inv .2)
+
+same-length : tie.Need-same-length Inv-loop2 μ-loop2 Inv-loop μ-loop
+same-length c = c .before .before .end-kind .kept .0 ∙ c .before .before .before .before .before .loop .inv .1
+
+returns : tie.Need-returns Inv-loop2 μ-loop2 Inv-loop μ-loop
+returns c =
+    let done = c .before .before in
+    let s = done .before .before .before .before .before in
+    let m = s .args .t1 in
+    let ready = ready-for m 2 (s .args .buffer .now) (s .pre .0) (omega arith) (s .pre .2) in
+    let inv = done .before .before .before .loop .inv in
+    items-end ready (statesOf m) _ 16 (states-lined m) _ _ _ _ _ (inv .0) (done .before .before .loop-test .left) (inv .2) (done .end-kind .ensures .0) (done .end-kind .ensures .1)
+
+pub write-states-spec : {M : Type 1} → statement M
+write-states-spec =
+    tie.close
+    (tie.spec
+    Inv-loop2
+    μ-loop2
+    Inv-loop
+    μ-loop
+    loop-holds
+    (λ c. search needs)
+    (λ c. search needs)
+    (λ c. search needs)
+    loop2-holds
+    (λ c. search needs)
+    (λ c. search needs)
+    (λ c. search needs)
+    element-copy-out-st
+    (λ c. search needs)
+    (λ c. search needs)
+    (λ c κs. search needs)
+    put-record-requires
+    (λ c. search needs)
+    (λ c. search needs)
+    loop2-again
+    (λ c. search needs)
+    (λ c. search needs)
+    loop-again
+    end-kind-requires
+    same-length
+    returns)

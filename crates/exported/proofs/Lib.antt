@@ -3,4 +3,5 @@ pub mod ByteLaws
 pub mod CallLaws
 pub mod EveryCall
 pub mod LoadLaws
+pub mod ModelLaws
 pub mod One

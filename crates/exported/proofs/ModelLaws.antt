@@ -1,24 +1,25 @@
 -- Laws of models from their bytes: the loops that store the exits of all states in one line, and what the test of the bytes tells.
-use mathlib.Core.Path.{_≡_, sym, ap, _∙_}
-use mathlib.Core.Bool.{true, false, _&&_, _||_, not, cond}
+use mathlib.Core.Path.{_≡_, refl, sym, ap, _∙_}
+use mathlib.Core.Bool.{Bool, true, false, _&&_, _||_, not, cond}
 use mathlib.Core.List.{List, [], _∷_, _++_, append-assoc, append-nil}
 use Prim.Native.Nat.{ℕ, suc, _+_, _-_, _*_, _≤_, _<_}
 use native.Mathlib.Nat.{sub-zero}
 use native.Mathlib.Numerals.{add-one}
 use native.Mathlib.Omega.{arith}
-use borrow.Author.Tests.{leb-true, le-leb, lt-leb}
-use lib.Dec.{eqb}
+use borrow.Author.Tests.{ltb-true, ltb-false, leb-true, le-leb, lt-leb, eqb-true, eq-eqb}
+use lib.Dec.{ltb, eqb}
 use lib.ListN.{length, getD, set, take, drop, replicate, length-append}
+use lib.Seq.{ext-getD}
 use Rattle.sets.specs.Below.{sumBelow, tableFrom, table}
-use Rattle.sets.specs.Groups.{lined}
+use Rattle.sets.specs.Groups.{placeIn, lined}
 use Rattle.sets.specs.Lists.{padded}
 use Rattle.sets.specs.Stores.{stored}
 use Rattle.sets.specs.Tests.{allZero}
-use Rattle.sets.proofs.Below.{length-table, table-more, sum-has, all-each}
-use Rattle.sets.proofs.Groups.{length-lined}
-use Rattle.sets.proofs.Lists.{padded-set}
+use Rattle.sets.proofs.Below.{length-table, table-more, sum-has, all-each, all-by}
+use Rattle.sets.proofs.Groups.{length-lined, lined-at, spot}
+use Rattle.sets.proofs.Lists.{length-padded, padded-set, padded-at, padded-past}
 use Rattle.sets.proofs.Stores.{chained, chainedFrom, chained-stored, stored-none, stored-more}
-use Rattle.sets.proofs.Tests.{and-both}
+use Rattle.sets.proofs.Tests.{and-both, and-true}
 use Rattle.exported.specs.Bytes.{modelSize, stateIn, exitsIn, headFrom, storedFrom, isState, isModel}
 
 -- ---- stores in a line
@@ -68,6 +69,36 @@ module _ (count : ℕ → ℕ) (item : ℕ → ℕ → ℕ) (n : ℕ) where
   pub line-end : (now : List ℕ) (g m : ℕ) → g ≤ m → m ≤ g → now ≡ padded n 0 (lined count item g) → now ≡ padded n 0 (lined count item m)
   line-end now g m l h e = let k : g ≡ m = omega arith in e ∙ ap (λ (j : ℕ). padded n 0 (lined count item j)) k
 
+-- a list is such a line where each thing is at its place and behind them there are zeros
+pub line-of : (count : ℕ → ℕ) (item : ℕ → ℕ → ℕ) (m n : ℕ) (l : List ℕ) → length l ≡ n → sumBelow count m ≤ n
+    → ((g k : ℕ) → g < m → k < count g → item g k ≡ getD l (placeIn count g k) 0) → ((j : ℕ) → sumBelow count m ≤ j → getD l j 0 ≡ 0)
+    → padded n 0 (lined count item m) ≡ l
+line-of count item m n l long room here behind =
+    ext-getD 0 _ l (size ∙ sym long) (λ j k. go j (omega (arith, size)) (ltb j (sumBelow count m)) refl)
+  where
+    line : List ℕ
+    line = lined count item m
+
+    length-is : length line ≡ sumBelow count m
+    length-is = length-lined count item m
+
+    size : length (padded n 0 line) ≡ n
+    size = length-padded n 0 line (omega (arith, length-is))
+
+    go : (j : ℕ) → j < n → (b : Bool) → ltb j (sumBelow count m) ≡ b → getD (padded n 0 line) j 0 ≡ getD l j 0
+    go j h true e =
+        let before = ltb-true j (sumBelow count m) e in
+        let s = spot count m j before in
+        let place = s .place in
+        padded-at n 0 line j 0 (omega (arith, length-is))
+        ∙ ap (λ (i : ℕ). getD line i 0) (sym place)
+        ∙ lined-at count item m (s .g) (s .k) 0 (s .group) (s .inside)
+        ∙ here (s .g) (s .k) (s .group) (s .inside)
+        ∙ ap (λ (i : ℕ). getD l i 0) place
+    go j h false e =
+        let past = ltb-false j (sumBelow count m) e in
+        padded-past n 0 line j 0 (omega (arith, length-is)) h ∙ sym (behind j past)
+
 -- ---- the states
 
 -- the state at place p, whose exits begin behind those of the states before it
@@ -96,6 +127,10 @@ is-state b h =
     let v = and-both _ _ (u .left) in
     record { few = leb-true _ 8 (v .left); kind = v .right; blank = u .right }
 
+pub state-is : (b : List ℕ) → IsState b → isState b ≡ true
+unfolding isState
+state-is b s = and-true (and-true (le-leb _ _ (s .few)) (s .kind)) (s .blank)
+
 -- with more exits there is no state; else it depends on the rest
 pub no-state : (b : List ℕ) → 8 < getD b 1 0 → isState b ≡ false
 unfolding isState
@@ -122,3 +157,17 @@ is-model b h =
       states = λ p l. is-state (stateIn b p) (all-each _ 512 (v .right) p l);
       exits = leb-true _ 1024 (u .right);
     }
+
+pub model-is : (b : List ℕ) → IsModel b → isModel b ≡ true
+unfolding isModel
+model-is b s =
+    and-true (and-true (le-leb _ _ (s .long)) (all-by _ 512 (λ p l. state-is (stateIn b p) (s .states p l)))) (le-leb _ _ (s .exits))
+
+-- every byte is zero: so is each
+pub zeros-by : (s : List ℕ) → ((i : ℕ) → i < length s → getD s i 0 ≡ 0) → allZero s ≡ true
+unfolding allZero
+zeros-by s h = all-by _ (length s) (λ i l. eq-eqb _ _ (h i l))
+
+pub zeros-each : (s : List ℕ) → allZero s ≡ true → (i : ℕ) → i < length s → getD s i 0 ≡ 0
+unfolding allZero
+zeros-each s h i l = eqb-true _ 0 (all-each _ (length s) h i l)

@@ -165,12 +165,11 @@ two : (d : List ℕ) → 2 ≤ length d → take 2 d ≡ getD d 0 0 ∷ getD d 1
 unfolding tableFrom
 two d h = part-table 2 0 d 0 (omega arith)
 
-pub short-same : (d : List ℕ) → AreBytes d → 2 ≤ length d → shortBytes (shortOf d) ≡ take 2 d
-short-same d h l =
-    let a = h 0 in
-    let p : shortOf d % 256 ≡ getD d 0 0 = omega (arith, a) in
-    let q : shortOf d / 256 ≡ getD d 1 0 = omega (arith, a) in
-    (λ i. p i ∷ q i ∷ []) ∙ sym (two d l)
+pub short-parts : (d : List ℕ) → AreBytes d → (shortOf d % 256 ≡ getD d 0 0) × (shortOf d / 256 ≡ getD d 1 0)
+short-parts d h = let a = h 0 in (omega arith, omega arith)
+
+short-same : (d : List ℕ) → AreBytes d → 2 ≤ length d → shortBytes (shortOf d) ≡ take 2 d
+short-same d h l = let p = short-parts d h in (λ i. p .0 i ∷ p .1 i ∷ []) ∙ sym (two d l)
 
 -- the two numbers of which one is made
 halves : (x y : ℕ) → x < 65536 → ((x + 65536 * y) % 65536 ≡ x) × ((x + 65536 * y) / 65536 ≡ y)

@@ -120,14 +120,14 @@ pub record IsState (b : List ℕ) : Type 0 where
   pub kind : (not (eqb (getD b 0 0) 0) || eqb (getD b 1 0) 0) ≡ true
   pub blank : allZero (take (24 - 3 * getD b 1 0) (drop (10 + 3 * getD b 1 0) b)) ≡ true
 
-pub is-state : (b : List ℕ) → isState b ≡ true → IsState b
+is-state : (b : List ℕ) → isState b ≡ true → IsState b
 unfolding isState
 is-state b h =
     let u = and-both _ _ h in
     let v = and-both _ _ (u .left) in
     record { few = leb-true _ 8 (v .left); kind = v .right; blank = u .right }
 
-pub state-is : (b : List ℕ) → IsState b → isState b ≡ true
+state-is : (b : List ℕ) → IsState b → isState b ≡ true
 unfolding isState
 state-is b s = and-true (and-true (le-leb _ _ (s .few)) (s .kind)) (s .blank)
 
@@ -163,7 +163,7 @@ unfolding isModel
 model-is b s =
     and-true (and-true (le-leb _ _ (s .long)) (all-by _ 512 (λ p l. state-is (stateIn b p) (s .states p l)))) (le-leb _ _ (s .exits))
 
--- every byte is zero: so is each
+-- every byte is zero where each is, and the other way round
 pub zeros-by : (s : List ℕ) → ((i : ℕ) → i < length s → getD s i 0 ≡ 0) → allZero s ≡ true
 unfolding allZero
 zeros-by s h = all-by _ (length s) (λ i l. eq-eqb _ _ (h i l))

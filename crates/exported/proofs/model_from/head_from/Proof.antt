@@ -27,7 +27,7 @@ returns c =
       timeout = timeout i;
       cancel = cancel i;
       receivers = receivers i;
-      first = c .before .before .before .before .before .before .before .before .before .before .before .args .first;
+      first = four .before .before .before .before .before .args .first;
     }
 
 pub head-from-spec : {M : Type 1} → statement M

@@ -33,7 +33,7 @@ use Rattle.exported.proofs.ByteLaws.{length-entry, length-marks, length
 -- ---- numbers
 
 -- a number in two bytes, and in four, is read back
-short-back : (x : ℕ) (rest : List ℕ) → shortOf (shortBytes x ++ rest) ≡ x
+pub short-back : (x : ℕ) (rest : List ℕ) → shortOf (shortBytes x ++ rest) ≡ x
 short-back x rest = omega arith
 
 word-back : (x : ℕ) (rest : List ℕ) → wordOf (wordBytes x ++ rest) ≡ x
@@ -43,7 +43,7 @@ word-back x rest = omega arith
 
 module _ (f : ℕ → List ℕ) (size : ℕ) (each : (i : ℕ) → length (f i) ≡ size) where
   -- what stands behind the first i
-  drop-each : (n i : ℕ) (rest : List ℕ) → i < n → (tail : List ℕ) × (drop (size * i) (eachOf f n ++ rest) ≡ f i ++ tail)
+  pub drop-each : (n i : ℕ) (rest : List ℕ) → i < n → (tail : List ℕ) × (drop (size * i) (eachOf f n ++ rest) ≡ f i ++ tail)
   unfolding eachOf
   drop-each zero i rest l = absurd (not-suc-le-zero l)
   drop-each (suc n) i rest l =
@@ -111,7 +111,7 @@ config-back c h =
 -- ---- its bytes are a configuration's
 
 -- byte i of the k-th
-each-byte : (f : ℕ → List ℕ) (size n k i : ℕ) → ((j : ℕ) → length (f j) ≡ size) → k < n → i < size → getD (eachOf f n) (size * k + i) 0 ≡ getD (f k) i 0
+pub each-byte : (f : ℕ → List ℕ) (size n k i : ℕ) → ((j : ℕ) → length (f j) ≡ size) → k < n → i < size → getD (eachOf f n) (size * k + i) 0 ≡ getD (f k) i 0
 each-byte f size n k i each l h =
     let r = drop-each f size each n k [] l in
     sym (getD-drop (size * k) (eachOf f n) i 0)
@@ -157,7 +157,7 @@ config-accepted c = and-true (le-leb configSize (length (configBytes c)) (omega 
 -- ---- written as it was read
 
 -- what is left of bytes are bytes
-rest-bytes : (b : List ℕ) (p : ℕ) → AreBytes b → AreBytes (drop p b)
+pub rest-bytes : (b : List ℕ) (p : ℕ) → AreBytes b → AreBytes (drop p b)
 rest-bytes b p h i = rw (getD-drop p b i 0) (h (p + i))
 
 -- a number of two bytes, and one of four
@@ -165,12 +165,11 @@ two : (d : List ℕ) → 2 ≤ length d → take 2 d ≡ getD d 0 0 ∷ getD d 1
 unfolding tableFrom
 two d h = part-table 2 0 d 0 (omega arith)
 
+pub short-parts : (d : List ℕ) → AreBytes d → (shortOf d % 256 ≡ getD d 0 0) × (shortOf d / 256 ≡ getD d 1 0)
+short-parts d h = let a = h 0 in (omega arith, omega arith)
+
 short-same : (d : List ℕ) → AreBytes d → 2 ≤ length d → shortBytes (shortOf d) ≡ take 2 d
-short-same d h l =
-    let a = h 0 in
-    let p : shortOf d % 256 ≡ getD d 0 0 = omega (arith, a) in
-    let q : shortOf d / 256 ≡ getD d 1 0 = omega (arith, a) in
-    (λ i. p i ∷ q i ∷ []) ∙ sym (two d l)
+short-same d h l = let p = short-parts d h in (λ i. p .0 i ∷ p .1 i ∷ []) ∙ sym (two d l)
 
 -- the two numbers of which one is made
 halves : (x y : ℕ) → x < 65536 → ((x + 65536 * y) % 65536 ≡ x) × ((x + 65536 * y) / 65536 ≡ y)
@@ -186,14 +185,14 @@ word-same d h l =
     ∙ sym (take-add 2 2 d)
 
 -- pieces of one size, one behind the other
-pieces : (size n : ℕ) (b : List ℕ) → eachOf (λ k. take size (drop (size * k) b)) n ≡ take (size * n) b
+pub pieces : (size n : ℕ) (b : List ℕ) → eachOf (λ k. take size (drop (size * k) b)) n ≡ take (size * n) b
 unfolding eachOf
 pieces size zero b = ap (λ (k : ℕ). take k b) (let e : 0 ≡ size * 0 = omega arith in e)
 pieces size (suc n) b =
     let e : size * suc n ≡ size * n + size = omega arith in
     ap (λ (l : List ℕ). l ++ take size (drop (size * n) b)) (pieces size n b) ∙ sym (take-add (size * n) size b) ∙ ap (λ (k : ℕ). take k b) (sym e)
 
-each-same : (f g : ℕ → List ℕ) (n : ℕ) → ((i : ℕ) → i < n → f i ≡ g i) → eachOf f n ≡ eachOf g n
+pub each-same : (f g : ℕ → List ℕ) (n : ℕ) → ((i : ℕ) → i < n → f i ≡ g i) → eachOf f n ≡ eachOf g n
 unfolding eachOf
 each-same f g zero h = refl
 each-same f g (suc n) h = rw (each-same f g n (λ i l. h i (omega arith)), h n (omega arith))
@@ -209,7 +208,7 @@ marks-same b h l =
     ∙ pieces 4 16 b
 
 -- an entry whose third byte is 0 or 1
-three : (d : List ℕ) → 3 ≤ length d → take 3 d ≡ getD d 0 0 ∷ getD d 1 0 ∷ getD d 2 0 ∷ []
+pub three : (d : List ℕ) → 3 ≤ length d → take 3 d ≡ getD d 0 0 ∷ getD d 1 0 ∷ getD d 2 0 ∷ []
 unfolding tableFrom
 three d h = part-table 3 0 d 0 (omega arith)
 

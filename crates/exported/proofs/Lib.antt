@@ -3,4 +3,6 @@ pub mod ByteLaws
 pub mod CallLaws
 pub mod EveryCall
 pub mod LoadLaws
+pub mod ModelBack
+pub mod ModelLaws
 pub mod One

@@ -1,17 +1,21 @@
 -- Models and configurations as bytes, numbers of several bytes with the low byte first.
-use mathlib.Core.Bool.{Bool, _&&_, not, cond}
+use mathlib.Core.Bool.{Bool, _&&_, _||_, not, cond}
 use mathlib.Core.List.{List, [], _∷_, _++_}
-use Prim.Native.Nat.{ℕ, _+_, _*_, _/_, _%_}
+use Prim.Native.Nat.{ℕ, _+_, _-_, _*_, _/_, _%_}
 use lib.Dec.{eqb, leb}
-use lib.ListN.{length, drop, getD}
-use Rattle.sets.specs.Below.{allBelow, table}
+use lib.ListN.{length, take, drop, getD}
+use Rattle.sets.specs.Below.{allBelow, sumBelow, table}
+use Rattle.sets.specs.Groups.{lined}
+use Rattle.sets.specs.Lists.{padded}
 use Rattle.sets.specs.Stores.{eachOf}
-use Rattle.model.specs.Sizes.{mostSubjects, mostRows, mostExits, statePlaces}
+use Rattle.sets.specs.Tests.{allZero}
+use Rattle.model.specs.Sizes.{mostSubjects, mostRows, mostExits, mostExitsInAll, statePlaces}
 use Rattle.model.specs.Valid.{subjectAt, stateAt, exitAt, rowAt}
 use Rattle.model.specs.declared.Exit.{Exit}
 use Rattle.model.specs.declared.Model.{Model}
 use Rattle.model.specs.declared.Row.{Row}
 use Rattle.model.specs.declared.State.{State}
+use Rattle.model.specs.declared.Stored.{Stored}
 use Rattle.model.specs.declared.Subject as model-subject
 use Rattle.engine.specs.pools.Entries.{blankEntry}
 use Rattle.engine.specs.pools.Sizes.{mostEntries}
@@ -127,3 +131,71 @@ modelBytes m =
     m .n
     ∷ (shortBytes (m .start)
     ++ (eachOf (λ s. ownBytes (subjectAt m s)) mostSubjects ++ eachOf (λ p. stateBytes (stateAt m p)) statePlaces))
+
+-- ---- and back: past the end of the bytes there are zeros
+
+abbrev pub rowFrom : List ℕ → Row
+rowFrom b = record { sender = getD b 0 0; typ = getD b 1 0; limit = getD b 2 0 }
+
+unfoldable pub ownFrom : List ℕ → model-subject.Subject
+ownFrom b =
+    record {
+      states = getD b 0 0;
+      initial = getD b 1 0;
+      rows = getD b 2 0;
+      row = table (λ k. rowFrom (drop (3 + 3 * k) b)) mostRows;
+    }
+
+-- the bytes of the state at place p, and how many exits it has
+abbrev pub stateIn : List ℕ → ℕ → List ℕ
+stateIn b p = drop (435 + 34 * p) b
+
+abbrev pub exitsIn : List ℕ → ℕ → ℕ
+exitsIn b p = getD (stateIn b p) 1 0
+
+-- a state as a model keeps it: its exits begin at `first`
+unfoldable pub headFrom : List ℕ → ℕ → Stored
+headFrom b first =
+    record {
+      kind = getD b 0 0;
+      exits = getD b 1 0;
+      sender = getD b 2 0;
+      typ = getD b 3 0;
+      after = shortOf (drop 4 b);
+      timeout = getD b 6 0;
+      cancel = getD b 7 0;
+      receivers = shortOf (drop 8 b);
+      first = first;
+    }
+
+-- the state at place p: its exits begin after those of the states before it; where there is no state, at 0
+unfoldable pub storedFrom : List ℕ → ℕ → Stored
+storedFrom b p = headFrom (stateIn b p) (cond (eqb (getD (stateIn b p) 0 0) 0) 0 (sumBelow (exitsIn b) p))
+
+-- byte f of every exit, in the order of their states
+unfoldable pub exitsFrom : List ℕ → ℕ → List ℕ
+exitsFrom b f = padded mostExitsInAll 0 (lined (exitsIn b) (λ p x. getD (stateIn b p) (10 + 3 * x + f) 0) statePlaces)
+
+unfoldable pub modelFrom : List ℕ → Model
+modelFrom b =
+    record {
+      n = getD b 0 0;
+      start = shortOf (drop 1 b);
+      subjects = table (λ s. ownFrom (drop (3 + 27 * s) b)) mostSubjects;
+      states = table (storedFrom b) statePlaces;
+      targets = exitsFrom b 0;
+      senders = exitsFrom b 1;
+      types = exitsFrom b 2;
+    }
+
+-- the bytes of a state: at most 8 exits, none where it has no kind, and nothing but zeros behind its own
+unfoldable pub isState : List ℕ → Bool
+isState b =
+    leb (getD b 1 0) mostExits
+    && (not (eqb (getD b 0 0) 0) || eqb (getD b 1 0) 0)
+    && allZero (take (24 - 3 * getD b 1 0) (drop (10 + 3 * getD b 1 0) b))
+
+-- the bytes of a model, and perhaps more behind them: each state's are right, and all have 1,024 exits at the most
+unfoldable pub isModel : List ℕ → Bool
+isModel b =
+    leb modelSize (length b) && allBelow (λ p. isState (stateIn b p)) statePlaces && leb (sumBelow (exitsIn b) statePlaces) mostExitsInAll

@@ -1,13 +1,15 @@
--- What is promised of configurations as bytes: what was written is read back, and what is read is written the same.
+-- What is promised of configurations and models as bytes: what was written is read back, and what is read is written the same.
 use mathlib.Core.Path.{_≡_}
 use mathlib.Core.Bool.{true}
 use mathlib.Core.List.{List}
 use Prim.Native.Nat.{ℕ}
 use lib.ListN.{take}
+use Rattle.model.specs.Valid as model-valid
+use Rattle.model.specs.declared.Model.{Model}
 use Rattle.model_promises.specs.Loads.{AreBytes}
 use Rattle.engine.specs.configs.Subjects.{Held}
 use Rattle.engine.specs.declared.Config.{Config}
-use Rattle.exported.specs.Bytes.{configSize, configBytes, configFrom, isConfig}
+use Rattle.exported.specs.Bytes.{configSize, configBytes, configFrom, isConfig, modelSize, modelBytes, modelFrom, isModel}
 
 -- every configuration in the machine is `Held`: arrays of their length and masks of their width
 pub record WrittenIsRead : Type 0 where
@@ -17,3 +19,12 @@ pub record WrittenIsRead : Type 0 where
   pub back : (c : Config) → Held c → configFrom (configBytes c) ≡ c
   -- the bytes of a configuration are written as they were read
   pub same : (b : List ℕ) → AreBytes b → isConfig b ≡ true → configBytes (configFrom b) ≡ take configSize b
+
+-- of models, where every model in the machine is `Held`
+pub record ModelWrittenIsRead : Type 0 where
+  -- the bytes of a valid model are a model's
+  pub accepted : (m : Model) → model-valid.Held m → model-valid.valid m ≡ true → isModel (modelBytes m) ≡ true
+  -- and say the same model
+  pub back : (m : Model) → model-valid.Held m → model-valid.valid m ≡ true → modelFrom (modelBytes m) ≡ m
+  -- the bytes of a model are written as they were read
+  pub same : (b : List ℕ) → AreBytes b → isModel b ≡ true → modelBytes (modelFrom b) ≡ take modelSize b

@@ -12,6 +12,7 @@ ghost use Rattle.exported.specs.Calls.{modelIn, loadRefusals, loadRoom, 
 
 mod config_bytes;
 mod model_bytes;
+mod model_from;
 mod numbers;
 
 use engine::Config;

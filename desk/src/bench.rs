@@ -1,10 +1,9 @@
 //! `desk bench`: the time of the proved and the second engine on the same models and tapes.
 
 use crate::args::*;
-use crate::compare::flat::{model_bytes, MODEL_BYTES};
 use crate::files;
 use crate::proved::{self, Engine};
-use crate::random::{command_for, Rng};
+use crate::random::{command_for, fullest, Rng};
 use crate::second::*;
 use crate::text::model_parse::parse_model;
 use std::hint::black_box;
@@ -13,9 +12,13 @@ use std::time::Instant;
 /// The commands of a tape that is run as a whole, and of one that is walked by public steps.
 const TAPE: usize = 100_000;
 const WALK: usize = 10_000;
-/// How often a file is loaded and a configuration copied in one run.
+/// How often a file is loaded and written and a configuration copied in one run.
 const LOADS: usize = 200;
+const WRITES: usize = 200;
 const COPIES: usize = 100_000;
+
+/// The row of the full model in which the checks of its blocks are timed in place of the second engine.
+const CHECKS: &str = "write / 43 checks";
 
 /// As large as model P of the rules, but it never ends.
 const SMALL: &str = "
@@ -38,9 +41,10 @@ subject valve starts
     -> wait
 ";
 
-/// A model with its file, where it starts, and the tapes for it.
+/// A model with its bytes and its file, where it starts, and the tapes for it.
 struct Course {
     name: &'static str,
+    model: Vec<u8>,
     file: Vec<u8>,
     start: Config,
     tapes: Vec<(&'static str, Vec<u8>)>,
@@ -72,9 +76,10 @@ pub fn main(given: &[String]) -> Outcome {
     }
     let engine = proved::engine()?;
     let only = args.option("--only").unwrap_or("");
-    let all = [small(), middle(), large()];
+    let all = [small(), middle(), large(), full()];
     let of = |course| rows_of(engine.as_ref(), course);
     let mut rows: Vec<Row> = all.iter().flat_map(of).collect();
+    rows.push(checks_row(engine.as_ref(), &all[3]));
     rows.retain(|row| format!("{} {}", row.model, row.what).contains(only));
     if rows.is_empty() {
         return usage(format!("--only: no row has '{only}' in 'MODEL WHAT'"));
@@ -93,36 +98,53 @@ pub fn main(given: &[String]) -> Outcome {
     files::print(&table(&rows, runs))
 }
 
-/// What is timed with a model: loading, and every tape as a whole and by public steps.
+impl<'a> Row<'a> {
+    /// A row that has not been timed yet.
+    fn of(
+        s: &Course,
+        what: &str,
+        proved: impl Fn() -> f64 + 'a,
+        second: impl Fn() -> f64 + 'a,
+    ) -> Row<'a> {
+        Row {
+            model: s.name,
+            what: what.to_string(),
+            proved: Box::new(proved),
+            second: Box::new(second),
+            times: Vec::new(),
+        }
+    }
+}
+
+/// What is timed with a model: loading, writing, and every tape as a whole and by public steps.
 fn rows_of<'a>(engine: &'a dyn Engine, s: &'a Course) -> Vec<Row<'a>> {
-    let row = |what: String, proved, second| Row {
-        model: s.name,
-        what,
-        proved,
-        second,
-        times: Vec::new(),
-    };
-    let mut rows = vec![row(
-        "load".to_string(),
-        Box::new(|| load_proved(engine, s)),
-        Box::new(|| load_second(s)),
-    )];
+    let mut rows = vec![
+        Row::of(s, "load", || load_proved(engine, s), || load_second(s)),
+        Row::of(s, "write", || write_proved(engine, s), || write_second(s)),
+    ];
     for (name, tape) in &s.tapes {
-        rows.push(row(
-            format!("tape step, {name}"),
-            Box::new(|| run_proved(engine, s, tape)),
-            Box::new(|| run_second(s, tape)),
+        rows.push(Row::of(
+            s,
+            &format!("tape step, {name}"),
+            || run_proved(engine, s, tape),
+            || run_second(s, tape),
         ));
     }
     for (name, tape) in &s.tapes {
         let tape = &tape[..WALK * 8];
-        rows.push(row(
-            format!("public step, {name}"),
-            Box::new(|| walk_proved(engine, s, tape)),
-            Box::new(|| walk_second(s, tape)),
+        rows.push(Row::of(
+            s,
+            &format!("public step, {name}"),
+            || walk_proved(engine, s, tape),
+            || walk_second(s, tape),
         ));
     }
     rows
+}
+
+/// Writing by the proved engine beside the checks of all blocks alone in plain Rust.
+fn checks_row<'a>(engine: &'a dyn Engine, s: &'a Course) -> Row<'a> {
+    Row::of(s, CHECKS, || write_proved(engine, s), || checks_alone(s))
 }
 
 /// Times both engines once, in either order, and copies of a configuration around the proved one.
@@ -165,7 +187,38 @@ fn load_second(s: &Course) -> f64 {
     time(LOADS, || {
         for _ in 0..LOADS {
             let model = load(black_box(&s.file)).unwrap_or_default();
-            black_box(model_bytes(&model));
+            black_box(model.to_bytes());
+        }
+    })
+}
+
+fn write_proved(engine: &dyn Engine, s: &Course) -> f64 {
+    let mut room = vec![0; s.file.len()];
+    time(WRITES, || {
+        for _ in 0..WRITES {
+            black_box(engine.write(black_box(&s.model), &mut room));
+        }
+    })
+}
+
+/// The second engine reads the same bytes; it writes the model, loads what it wrote and compares.
+fn write_second(s: &Course) -> f64 {
+    let mut room = vec![0; s.file.len()];
+    time(WRITES, || {
+        for _ in 0..WRITES {
+            let model = Model::from_bytes(black_box(&s.model)).unwrap_or_default();
+            let _ = black_box(write(&model, &mut room));
+        }
+    })
+}
+
+/// The checks of all blocks of the file and nothing else.
+fn checks_alone(s: &Course) -> f64 {
+    time(WRITES, || {
+        for _ in 0..WRITES {
+            for block in black_box(&s.file).chunks_exact(BLOCK) {
+                black_box(check(&block[..508]));
+            }
         }
     })
 }
@@ -289,6 +342,18 @@ fn large() -> Course {
     course("large", model, start, &all)
 }
 
+/// The model with the longest file there is, 43 blocks; it is only loaded and written.
+fn full() -> Course {
+    let model = fullest(0);
+    Course {
+        name: "full",
+        model: model.to_bytes(),
+        file: file_of(&model),
+        start: fresh(&model).1,
+        tapes: Vec::new(),
+    }
+}
+
 /// Six states from number `at` on: internal, send, receive, ask-empty, close, open.
 fn large_states(s: u8, at: u8) -> Vec<State> {
     let exit = |target: u8, sender: u8, typ: u8| Exit {
@@ -386,6 +451,7 @@ fn course(name: &'static str, model: Model, start: Config, actors: &[u8]) -> Cou
     ];
     Course {
         name,
+        model: model.to_bytes(),
         file: file_of(&model),
         start,
         tapes,
@@ -434,7 +500,8 @@ fn table(rows: &[Row], runs: u64) -> String {
     let bytes = std::mem::size_of::<Config>();
     let mut text = format!(
         "Median of {runs} runs (least to most). A copy is a plain copy of a configuration ({bytes} bytes), timed right before \
-         and after every time of the proved engine.\n\n"
+         and after every time of the proved engine. In the row '{CHECKS}' the second time is that of computing these checks \
+         alone, in plain Rust.\n\n"
     );
     text += "| model | what | proved, ns | second, ns | proved / second | a copy, ns | proved / copy |\n";
     text += "|---|---|---:|---:|---:|---:|---:|\n";
@@ -475,6 +542,7 @@ fn ns(value: f64) -> String {
 #[cfg(test)]
 mod tests {
     use super::*;
+    use crate::compare::stand_in::{Fault, StandIn};
 
     #[test]
     fn models_and_starts_are_valid_and_every_command_is_accepted() {
@@ -494,6 +562,30 @@ mod tests {
                 println!("entries at the end {pools}");
                 assert!(s.name != "large" || pools >= 170, "{name}: {pools}");
             }
+        }
+    }
+
+    #[test]
+    fn the_full_model_has_43_blocks() {
+        let s = full();
+        assert!(load(&s.file).is_ok_and(|m| m.to_bytes() == s.model));
+        let kinds = |kind: u8| s.file.chunks(BLOCK).filter(|b| b[2] == kind).count();
+        let blocks = [HEADER_BLOCK, STATE_BLOCK, EXIT_BLOCK, LIMIT_BLOCK].map(kinds);
+        assert_eq!(blocks, [1, 13, 25, 4]);
+    }
+
+    #[test]
+    fn the_full_model_is_written_beside_its_checks() {
+        let (engine, s) = (StandIn(Fault::Whole), full());
+        let mut rows = rows_of(&engine, &s);
+        rows.push(checks_row(&engine, &s));
+        for row in &mut rows {
+            let times = one_time(row, &s.start, false);
+            row.times.push(times);
+        }
+        let text = table(&rows, 1);
+        for what in ["load", "write", CHECKS] {
+            assert!(text.contains(&format!("\n| full | {what} | ")), "{text}");
         }
     }
 

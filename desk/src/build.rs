@@ -1,7 +1,9 @@
 //! `desk build`: model text to a model file.
 
 use crate::args::*;
+use crate::compare;
 use crate::files;
+use crate::proved;
 use crate::second::*;
 use crate::text::model_parse::parse_model;
 
@@ -16,8 +18,22 @@ pub fn main(given: &[String]) -> Outcome {
     let text = files::read_text(path)?;
     let named = parse_model(&text).map_err(|e| files::at(path, &e))?;
     let file = file_of(&named.model);
+    engines_agree(path, &file)?;
     files::write(target, &file)?;
     files::print(&format!("{target}: {}\n", sizes(&named.model, &file)))
+}
+
+/// Refuses where the desk has the proved engine and that writes other bytes of the same model.
+fn engines_agree(path: &str, file: &[u8]) -> Outcome {
+    let Ok(engine) = proved::engine() else {
+        return Ok(());
+    };
+    match compare::writing_differs(engine.as_ref(), file) {
+        Some(text) => refused(format!(
+            "{path}: no file is written, for the proved engine writes other bytes of this model\n\n{text}"
+        )),
+        None => Ok(()),
+    }
 }
 
 /// The sizes of a model and its file in words.

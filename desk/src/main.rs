@@ -60,7 +60,9 @@ Writes the model file of a model text. Subjects and states are numbered in order
     state done end
 
   Other states: 'state NAME close TYPE from SENDER' and 'open' with '-> STATE'; 'ask-empty TYPE from SENDER' with
-  'empty -> STATE' and 'not-empty -> STATE'. 'any' stands for every type or sender and may be left out there.";
+  'empty -> STATE' and 'not-empty -> STATE'. 'any' stands for every type or sender and may be left out there.
+
+Where the desk has the proved engine, that writes the model too; where its bytes are others, no file is written.";
 
 const SHOW: &str = "\
 Prints a model file as text that 'desk build' reads back to the same file. Of a damaged file it prints the refusal,
@@ -93,17 +95,22 @@ bounds the configurations (100000 unless said otherwise); --dot writes a picture
 
 const COMPARE: &str = "\
 Compares the second engine with the proved one: random models, their files whole and damaged, the yes/no for each pool,
-fresh starts, tapes step by step and as a whole, from configurations disturbed and bytes that are none, buffers too short
-or longer than needed. Answers and every byte of the buffers are compared, so a refused call has to leave them all. The
-same seed gives the same cases; --seconds stops earlier. At the end a table says how often each command, refusal and answer
-came. The first difference is printed in its shortest form, with what each engine said, and ends with status 1.";
+fresh starts, tapes step by step and as a whole, from configurations disturbed and bytes that are none, models written as
+they are and edited, buffers too short or longer than needed. Answers and every byte of the buffers are compared, so a
+refused call has to leave them all; every file that loads is written back and has to come out the same. The same seed
+gives the same cases; --seconds stops earlier. At the end a table says how often each command, refusal and answer came, and
+how many models were written, refused and still valid after an edit. The first difference is printed in its shortest form,
+with what each engine said, and ends with status 1.";
 
 const BENCH: &str = "\
 Times the proved and the second engine side by side, on a small model, a middle one, and a large one with full pools:
-loading, tape steps (a whole tape judged once) and public steps (validity decided for each command). Prints a table in
-Markdown, in nanoseconds, as a ratio and in copies of a configuration, with the median and the spread over the runs (10
-unless said otherwise). A copy is timed right before and after every time of the proved engine. --only keeps the rows
-that have the words in them, as 'middle public step'. Loading includes writing out the model's bytes in both.";
+loading, writing, tape steps (a whole tape judged once) and public steps (validity decided for each command). A full one,
+whose file has 43 blocks, is only loaded and written; the row 'write / 43 checks' has the proved engine's write beside
+the time of computing these checks alone in plain Rust, and their ratio. Prints a table in Markdown, in nanoseconds, as a
+ratio and in copies of a configuration, with the median and the spread over the runs (10 unless said otherwise). A copy is
+timed right before and after every time of the proved engine. --only keeps the rows that have the words in them, as 'middle
+public step'. Loading includes writing out the model's bytes in both, and writing reading them; the second engine decides
+validity by loading what it wrote.";
 
 const HELP: &str = "Prints this, or what one subcommand does.";
 

@@ -54,6 +54,30 @@ fn a_model_is_valid_exactly_when_its_file_loads_to_it() {
 }
 
 #[test]
+fn a_model_is_written_exactly_when_it_is_valid() {
+    let mut rng = Rng::new(9);
+    let mut counts = [0; 2];
+    for _ in 0..20_000 {
+        let whole = random_model(&mut rng);
+        let model = match rng.chance(50) {
+            true => retouched(&mut rng, &whole),
+            false => changed(&mut rng, &whole),
+        };
+        let mut room = [0xa5; MOST_BLOCKS * BLOCK];
+        let answer = write(&model, &mut room);
+        assert_eq!(answer.is_ok(), model_valid(&model), "{model:?}");
+        let length = answer.unwrap_or(0);
+        assert!(room[length..].iter().all(|b| *b == 0xa5), "{model:?}");
+        if length != 0 {
+            assert_eq!(load(&room[..length]).as_ref(), Ok(&model));
+            assert_eq!(Model::from_bytes(&model.to_bytes()), Some(model));
+        }
+        counts[usize::from(length != 0)] += 1;
+    }
+    assert!(counts.iter().all(|c| *c > 5_000), "{counts:?}");
+}
+
+#[test]
 fn a_damaged_file_is_refused_or_is_the_file_of_its_model() {
     let mut rng = Rng::new(4);
     let mut refusals = [0; 6];

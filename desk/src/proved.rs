@@ -1,10 +1,13 @@
 //! The proved engine's functions. This is the only file with `unsafe`.
 
 /// What the proved engine offers. Each call answers with the first refusal that holds, 0 for none, and a refused one changes no
-/// byte of any buffer. 8 is a file that does not load, 10 bytes that are no configuration or not a valid one, 6 a buffer too short.
+/// byte of any buffer. 8 is a file that does not load, or bytes to write that are no model or not a valid one; 10 bytes that are no
+/// configuration or not a valid one; 6 a buffer too short.
 pub trait Engine {
     /// The loader's 1 to 5 plus 256 * block, 6; the model's bytes go to `room`.
     fn load(&self, file: &[u8], room: &mut [u8]) -> u16;
+    /// 8, 6, else 256 * the length of the file; the file of the model's bytes goes to the front of `room`.
+    fn write(&self, model: &[u8], room: &mut [u8]) -> u32;
     /// 8, 6; the fresh start goes to `config`.
     fn fresh(&self, file: &[u8], config: &mut [u8]) -> u8;
     /// One coded command: 8, 9, 10, 6, 11 to 20; `config` is replaced, Reserve's answer goes to `values`, else nine 0.
@@ -40,6 +43,7 @@ pub fn engine() -> Result<Box<dyn Engine>, crate::args::Stop> {
 mod library {
     extern "C" {
         fn zs_load(file: *const u8, n: usize, room: *mut u8, room_n: usize) -> u16;
+        fn zs_write(model: *const u8, model_n: usize, room: *mut u8, room_n: usize) -> u32;
         fn zs_fresh(file: *const u8, n: usize, config: *mut u8, config_n: usize) -> u8;
         fn zs_step(
             file: *const u8,
@@ -79,6 +83,10 @@ mod library {
     impl super::Engine for Library {
         fn load(&self, file: &[u8], room: &mut [u8]) -> u16 {
             unsafe { zs_load(file.as_ptr(), file.len(), room.as_mut_ptr(), room.len()) }
+        }
+
+        fn write(&self, model: &[u8], room: &mut [u8]) -> u32 {
+            unsafe { zs_write(model.as_ptr(), model.len(), room.as_mut_ptr(), room.len()) }
         }
 
         fn fresh(&self, file: &[u8], config: &mut [u8]) -> u8 {

@@ -548,8 +548,8 @@ pub fn flagged(rng: &mut Rng, config: &Config) -> [u8; CONFIG_BYTES] {
     bytes
 }
 
-/// Any bytes at all in the place of a configuration.
-pub fn any_bytes(rng: &mut Rng) -> [u8; CONFIG_BYTES] {
+/// Any bytes at all in the place of a configuration or a model.
+pub fn any_bytes<const N: usize>(rng: &mut Rng) -> [u8; N] {
     let most = rng.pick(&[2, 2, 4, 256]);
     std::array::from_fn(|_| rng.below(most) as u8)
 }
@@ -753,6 +753,52 @@ fn change_exit(rng: &mut Rng, state: &mut State, value: u8) {
     }
 }
 
+/// A model with one thing changed to something else that mostly fits.
+pub fn retouched(rng: &mut Rng, model: &Model) -> Model {
+    let mut model = model.clone();
+    let n = model.n();
+    let s = rng.below(n);
+    let subject = &mut model.subjects[s];
+    match rng.below(10) {
+        0 => model.start = random_start(rng, n),
+        1 => subject.initial = random_target(rng, subject),
+        2 | 3 => retouch_rows(rng, &mut subject.limits),
+        4 if subject.states.len() < MOST_STATES => {
+            let t = rng.below(subject.states.len());
+            subject.states.push(subject.states[t].clone());
+        }
+        _ => retouch_state(rng, subject, s, n),
+    }
+    model
+}
+
+/// Changes the limit of a row, drops a row, or gives an owner without rows one.
+fn retouch_rows(rng: &mut Rng, limits: &mut Vec<Limit>) {
+    let i = rng.below(limits.len());
+    match limits.get_mut(i) {
+        None => limits.extend(many_rows(1)),
+        Some(row) if rng.chance(75) => row.limit = rng.between(1, POOL) as u8,
+        Some(_) => drop(limits.remove(i)),
+    }
+}
+
+/// Changes a target, a type, the receivers, the timeout or the cancel target of a state, or gives it one more exit.
+fn retouch_state(rng: &mut Rng, subject: &mut Subject, s: usize, n: usize) {
+    let t = rng.below(subject.states.len());
+    let target = random_target(rng, subject);
+    let mut state = subject.states[t].clone();
+    let e = rng.below(state.exits.len());
+    match state.kind {
+        END => {}
+        SEND if rng.chance(30) => state.receivers = random_receivers(rng, s, n),
+        INTERNAL | SEND | RECEIVE if rng.chance(30) => random_leave(rng, subject, &mut state),
+        INTERNAL | RECEIVE if rng.chance(30) => state.exits.push(state.exits[e]),
+        SEND | RECEIVE if rng.chance(40) => state.exits[e].typ = rng.below(32) as u8,
+        _ => state.exits[e].target = target,
+    }
+    subject.states[t] = state;
+}
+
 /// The bytes of a configuration with one entry of a pool doubled, dropped or changed, mostly a reservation.
 pub fn twisted(rng: &mut Rng, config: &Config) -> [u8; CONFIG_BYTES] {
     let mut config = *config;
@@ -798,7 +844,7 @@ pub fn brimming(rng: &mut Rng, model: &Model) -> Model {
             let last = subject.clone();
             model.subjects.resize(MOST_SUBJECTS + more, last);
         }
-        _ => model = many_exits(more),
+        _ => model = fullest(more),
     }
     model
 }
@@ -826,12 +872,12 @@ fn ringing(exits: usize) -> State {
     }
 }
 
-/// A model of 1,024 exits, or some more.
-fn many_exits(more: usize) -> Model {
+/// The model with the longest file, 43 blocks: as many subjects, states, exits and rows as there may be, or some exits more.
+pub fn fullest(more: usize) -> Model {
     let subject = Subject {
         initial: 0,
         states: vec![ringing(2); MOST_STATES],
-        limits: Vec::new(),
+        limits: many_rows(MOST_ROWS),
     };
     let mut model = Model {
         start: 1,

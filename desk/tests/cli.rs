@@ -172,9 +172,11 @@ fn compares_and_times() {
     let compared = desk(&["compare", "--seed", "5", "--cases", "20"]);
     assert!(compared.status.success(), "{}", out(&compared));
     assert!(out(&compared).contains("seed 5, 20 of 20 cases"));
+    assert!(out(&compared).contains("\nWrite answered\n"));
     let timed = desk(&["bench", "--runs", "1"]);
     assert!(timed.status.success());
     assert!(out(&timed).contains("| large | public step, mix |"));
+    assert!(out(&timed).contains("| full | write / 43 checks |"));
 }
 
 #[test]

@@ -15,8 +15,17 @@ pub fn model_of(file: &[u8]) -> Model {
 /// Loading: the loader's refusal and 256 * block, then 6; the model's bytes go to `room`.
 pub fn load_call(file: &[u8], room: &mut [u8]) -> u16 {
     match load(file) {
-        Ok(model) => number(put(room, &model_bytes(&model))).into(),
+        Ok(model) => number(put(room, &model.to_bytes())).into(),
         Err(r) => u16::from(r.number) + 256 * r.block,
+    }
+}
+
+/// Writing a model given by its bytes: 8, then 6, or 256 * the length of its file, which goes to `room`.
+pub fn write_call(model: &[u8], room: &mut [u8]) -> u32 {
+    let model = Model::from_bytes(model).ok_or(8);
+    match model.and_then(|model| write(&model, room)) {
+        Ok(length) => 256 * length as u32,
+        Err(refusal) => refusal.into(),
     }
 }
 

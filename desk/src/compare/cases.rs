@@ -2,7 +2,7 @@
 
 use super::counts::Counts;
 use super::draft::{mend, Draft};
-use super::flat::MODEL_BYTES;
+use super::edits::{edited, edits_between};
 use super::trial::{Call, Difference, Spare, Trial};
 use crate::proved::Engine;
 use crate::random::*;
@@ -23,10 +23,22 @@ pub struct Comparison<'e> {
     pub counts: Counts,
 }
 
+/// How often a model is edited and written, and in which cases the largest one is: every so many.
+const EDITS: usize = 12;
+const LARGEST: u64 = 20;
+
 /// Files up to this many blocks are damaged at every byte.
 const SWEPT_BLOCKS: usize = 5;
 
 impl Comparison<'_> {
+    /// A comparison with this engine that has counted nothing yet.
+    pub fn of(engine: &dyn Engine) -> Comparison<'_> {
+        Comparison {
+            engine,
+            counts: Counts::default(),
+        }
+    }
+
     /// Asks both engines; stops at a difference.
     fn check(&mut self, trial: Trial) -> Compared {
         match trial.differs(self.engine, &mut self.counts) {
@@ -54,7 +66,12 @@ impl Comparison<'_> {
         } else {
             self.damages(rng, &file)?;
         }
-        self.refused_file(rng, &model, &file)
+        self.refused_file(rng, &model, &file)?;
+        self.writes(rng, &model, &file)?;
+        if case % LARGEST == 2 {
+            self.largest()?;
+        }
+        Ok(())
     }
 
     /// Loading, the yes/no for each subject and two beyond, and the fresh start.
@@ -95,6 +112,7 @@ impl Comparison<'_> {
     ) -> Compared {
         for (call, need) in [
             (Call::Load, MODEL_BYTES),
+            (Call::Write, file.len()),
             (Call::Fresh, 0),
             (Call::Step, 9),
             (Call::Run, numbers_of(tape)),
@@ -102,6 +120,7 @@ impl Comparison<'_> {
         ] {
             let spare = Spare {
                 config: random_spare(rng, CONFIG_BYTES),
+                model: random_spare(rng, MODEL_BYTES),
                 answer: random_spare(rng, need),
             };
             self.check(Trial {
@@ -139,6 +158,32 @@ impl Comparison<'_> {
             }
         }
         Ok(())
+    }
+
+    /// Writing the model, into a room that is empty, one too short, exact and longer, and edited models.
+    fn writes(&mut self, rng: &mut Rng, model: &Model, file: &[u8]) -> Compared {
+        let longer = rng.between(1, 2 * BLOCK) as isize;
+        for room in [-(file.len() as isize), -1, 0, longer] {
+            self.check(Trial::of_write(file, Vec::new(), room))?;
+        }
+        let bytes = model.to_bytes();
+        for _ in 0..EDITS {
+            let edits = edits_between(&bytes, &edited(rng, model));
+            let room = random_spare(rng, file.len());
+            if !edits.is_empty() {
+                self.check(Trial::of_write(file, edits, room))?;
+            }
+        }
+        Ok(())
+    }
+
+    /// Writing the model with the longest file, and with one exit more than there may be.
+    fn largest(&mut self) -> Compared {
+        let model = fullest(0);
+        let edits = edits_between(&model.to_bytes(), &fullest(1).to_bytes());
+        let file = file_of(&model);
+        self.check(Trial::of_write(&file, Vec::new(), 0))?;
+        self.check(Trial::of_write(&file, edits, 0))
     }
 
     /// Files of lengths that are wrong, or nearly so.

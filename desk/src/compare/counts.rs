@@ -25,6 +25,13 @@ pub struct Counts {
     pub replies: [u64; 5],
     pub yes: u64,
     pub no: u64,
+    /// Writes accepted, refused 8 and refused 6.
+    pub writes: [u64; 3],
+    /// Writes of edited models, and those of them that are still valid.
+    pub edited: u64,
+    pub still_valid: u64,
+    /// Files that were loaded and written back.
+    pub back: u64,
 }
 
 impl Counts {
@@ -48,6 +55,21 @@ impl Counts {
             1 => self.yes += 1,
             0 => self.no += 1,
             number => self.refusal(number),
+        }
+    }
+
+    /// Counts a write of a model as it was loaded, or of an edited one.
+    pub fn write(&mut self, refusal: u8, edited: bool) {
+        self.refusal(refusal);
+        let answer = match refusal {
+            0 => 0,
+            8 => 1,
+            _ => 2,
+        };
+        self.writes[answer] += 1;
+        if edited {
+            self.edited += 1;
+            self.still_valid += u64::from(refusal != 8);
         }
     }
 
@@ -96,11 +118,23 @@ impl Counts {
             let times = self.refusals[usize::from(number)];
             text += &format!("{number:2} {times:>19}  {}\n", refusal_word(number));
         }
-        text += "\nReserve answered\n";
         let words = ["placed", "improper", "closed", "full", "none missing"];
-        for (word, times) in words.iter().zip(self.replies) {
-            text += &format!("{word:<12} {times:>9}\n");
-        }
-        text + &format!("\nshared out: yes {}, no {}\n", self.yes, self.no)
+        text += &answers("Reserve", &words, &self.replies);
+        text += &format!("\nshared out: yes {}, no {}\n", self.yes, self.no);
+        let words = ["accepted", "refused 8", "refused 6"];
+        text += &answers("Write", &words, &self.writes);
+        text + &format!(
+            "\nedited models {} ({} still valid), files written back {}\n",
+            self.edited, self.still_valid, self.back
+        )
     }
+}
+
+/// How often each answer of a call came, a line each.
+fn answers(call: &str, words: &[&str], times: &[u64]) -> String {
+    let mut text = format!("\n{call} answered\n");
+    for (word, times) in words.iter().zip(times) {
+        text += &format!("{word:<12} {times:>9}\n");
+    }
+    text
 }

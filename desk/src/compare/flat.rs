@@ -1,57 +1,14 @@
-//! The flat layouts both engines are compared in, and the names of the fields in them.
+//! The names of the fields in the layouts both engines are compared in, and the nine bytes of an answer.
 
 use crate::second::*;
 
-pub const MODEL_BYTES: usize = 17_843;
 pub const VALUE_BYTES: usize = 9;
-const SUBJECT_BYTES: usize = 27;
-const STATE_BYTES: usize = 34;
-const STATES_AT: usize = 3 + 16 * SUBJECT_BYTES;
 
-/// A field of a flat layout: where it starts, how many bytes it has, and its name.
+/// A field of a layout: where it starts, how many bytes it has, and its name.
 pub struct Field {
     pub at: usize,
     pub len: usize,
     pub name: String,
-}
-
-/// The flat layout of a model; the empty model is all zero.
-pub fn model_bytes(model: &Model) -> Vec<u8> {
-    let mut bytes = vec![0; MODEL_BYTES];
-    bytes[0] = model.n() as u8;
-    bytes[1..3].copy_from_slice(&model.start.to_le_bytes());
-    for (s, subject) in model.subjects.iter().enumerate() {
-        write_subject(&mut bytes[3 + s * SUBJECT_BYTES..], subject);
-        for (t, state) in subject.states.iter().enumerate() {
-            write_state(&mut bytes[STATES_AT + (s * 32 + t) * STATE_BYTES..], state);
-        }
-    }
-    bytes
-}
-
-/// The sizes, initial state and limit rows of a subject.
-fn write_subject(part: &mut [u8], subject: &Subject) {
-    part[0] = subject.states.len() as u8;
-    part[1] = subject.initial;
-    part[2] = subject.limits.len() as u8;
-    for (row, place) in subject.limits.iter().zip(part[3..].chunks_exact_mut(3)) {
-        place.copy_from_slice(&[row.sender, row.typ, row.limit]);
-    }
-}
-
-/// A state with its exits.
-fn write_state(part: &mut [u8], state: &State) {
-    part[0] = state.kind;
-    part[1] = state.exits.len() as u8;
-    part[2] = state.sender;
-    part[3] = state.typ;
-    part[4..6].copy_from_slice(&state.duration.to_le_bytes());
-    part[6] = state.timeout;
-    part[7] = state.cancel;
-    part[8..10].copy_from_slice(&state.receivers.to_le_bytes());
-    for (exit, place) in state.exits.iter().zip(part[10..].chunks_exact_mut(3)) {
-        place.copy_from_slice(&[exit.target, exit.sender, exit.typ]);
-    }
 }
 
 /// The nine bytes of an answer: Reserve's masks and number missing, else 0.
@@ -166,6 +123,21 @@ fn add_state_fields(fields: &mut Fields, state: &str) {
             fields.add(1, format!("{state} exit {e} {name}"));
         }
     }
+}
+
+/// The fields of a file of so many blocks.
+pub fn file_fields(blocks: usize) -> Vec<Field> {
+    let mut fields = Fields::default();
+    for b in 0..blocks {
+        for (len, name) in [(2, "number"), (1, "kind"), (1, "records")] {
+            fields.add(len, format!("block {b} {name}"));
+        }
+        for (i, byte) in (0..RECORDS).flat_map(|i| (0..RECORD).map(move |byte| (i, byte))) {
+            fields.add(1, format!("block {b} record {i} byte {byte}"));
+        }
+        fields.add(4, format!("block {b} check"));
+    }
+    fields.0
 }
 
 /// The value of a field, low byte first.

@@ -4,9 +4,12 @@ mod calls;
 mod cases;
 mod counts;
 mod draft;
-pub mod flat;
+mod edits;
+mod flat;
 mod report;
 mod shorten;
+#[cfg(test)]
+pub mod stand_in;
 #[cfg(test)]
 mod tests;
 mod trial;
@@ -17,6 +20,7 @@ use crate::proved::{self, Engine};
 use cases::{Comparison, Found};
 use counts::Counts;
 use std::time::{Duration, Instant};
+use trial::Trial;
 
 /// The cases of the fixed comparison.
 pub const CASES: u64 = 2_000;
@@ -44,10 +48,7 @@ pub fn main(given: &[String]) -> Outcome {
 /// Goes through the cases of the plan.
 fn compare(engine: &dyn Engine, plan: &Plan) -> Outcome {
     let began = Instant::now();
-    let mut comparison = Comparison {
-        engine,
-        counts: Counts::default(),
-    };
+    let mut comparison = Comparison::of(engine);
     let mut done = 0;
     for case in 0..plan.cases {
         if plan.most.is_some_and(|most| began.elapsed() >= most) {
@@ -65,6 +66,13 @@ fn compare(engine: &dyn Engine, plan: &Plan) -> Outcome {
         began.elapsed().as_secs_f64(),
         comparison.counts.table()
     ))
+}
+
+/// Where the proved engine writes the model of a file otherwise than the second one, in words.
+pub fn writing_differs(engine: &dyn Engine, file: &[u8]) -> Option<String> {
+    let trial = Trial::of_write(file, Vec::new(), 0);
+    let difference = trial.differs(engine, &mut Counts::default())?;
+    Some(report::difference_text(&trial, &difference))
 }
 
 /// Prints a difference made as short as it goes.

@@ -1,13 +1,14 @@
 //! Prints a trial that differs: the model, the tape, and what each engine said.
 
-use super::flat::{config_fields, value_of};
-use super::trial::{Call, Difference, Spare, Trial};
+use super::calls::model_of;
+use super::flat::{config_fields, model_fields, value_of};
+use super::trial::{Call, Difference, Differing, Spare, Trial};
 use crate::second::*;
 use crate::show::{checks_aside, records_text, shown, trouble_text};
 use crate::text::names::Named;
 use crate::text::tape_print::tape_text;
 
-/// The most differing fields that are printed.
+/// The most differing or edited fields that are printed.
 const MOST_FIELDS: usize = 12;
 
 /// Everything about a trial that differs.
@@ -22,6 +23,7 @@ pub fn difference_text(trial: &Trial, difference: &Difference) -> String {
         text += &format!("\nthe tape, {commands}:\n");
         text += &tape_text(&trial.tape, named(trial).as_ref());
     }
+    text += &edits_text(trial);
     text += &format!("\n{}{}", call_text(trial), spare_text(trial.spare));
     if let Some(i) = difference.command.filter(|i| i * 8 < trial.tape.len()) {
         text += &format!(", command {} of the tape", i + 1);
@@ -65,10 +67,39 @@ fn start_text(trial: &Trial) -> String {
     text
 }
 
+/// What is edited in the model's bytes: every field that is, before and after.
+fn edits_text(trial: &Trial) -> String {
+    if trial.edits.is_empty() {
+        return String::new();
+    }
+    let (before, after) = (model_of(&trial.file).to_bytes(), trial.edited_model());
+    let mut lines = Vec::new();
+    for field in model_fields() {
+        match (value_of(&field, &before), value_of(&field, &after)) {
+            (old, new) if old == new => {}
+            (old, new) => lines.push(format!("  {} {old} -> {new}\n", field.name)),
+        }
+    }
+    "\nwith these fields of the model edited:\n".to_string() + &most_lines(&lines)
+}
+
+/// The first of some lines, and how many more there are.
+fn most_lines(lines: &[String]) -> String {
+    let text = lines[..lines.len().min(MOST_FIELDS)].concat();
+    match lines.len().saturating_sub(MOST_FIELDS) {
+        0 => text,
+        more => text + &format!("  and {more} more\n"),
+    }
+}
+
 /// The call in words.
 fn call_text(trial: &Trial) -> String {
     match trial.call {
-        Call::Load => "loading the file (zs_load)".to_string(),
+        Call::Load => "loading the file (zs_load) and writing it back (zs_write)".to_string(),
+        Call::Write if load(&trial.file).is_err() => {
+            "writing the empty model, all zero but for edits (zs_write)".to_string()
+        }
+        Call::Write => "writing the model (zs_write)".to_string(),
         Call::Shared => format!("is the pool of s{} shared out (zs_shared)", trial.owner),
         Call::Fresh => "the fresh start (zs_fresh)".to_string(),
         Call::Step => "step by step (zs_step)".to_string(),
@@ -80,7 +111,11 @@ fn call_text(trial: &Trial) -> String {
 /// The buffers that are shorter or longer than the call needs.
 fn spare_text(spare: Spare) -> String {
     let mut text = String::new();
-    for (buffer, spare) in [("configuration", spare.config), ("answer", spare.answer)] {
+    for (buffer, spare) in [
+        ("configuration", spare.config),
+        ("model", spare.model),
+        ("answer", spare.answer),
+    ] {
         let than = if spare < 0 { "short" } else { "long" };
         if spare != 0 {
             text += &format!(", buffer of the {buffer} {} too {than}", spare.abs());
@@ -91,12 +126,7 @@ fn spare_text(spare: Spare) -> String {
 
 /// What each engine said, a line a field.
 fn fields_text(difference: &Difference) -> String {
-    let mut text = format!("  {:<28}  {:<22}  proved engine\n", "", "second engine");
-    for d in difference.fields.iter().take(MOST_FIELDS) {
-        text += &format!("  {:<28}  {:<22}  {}\n", d.field, d.second, d.proved);
-    }
-    match difference.fields.len().saturating_sub(MOST_FIELDS) {
-        0 => text,
-        more => text + &format!("  and {more} more\n"),
-    }
+    let line = |d: &Differing| format!("  {:<28}  {:<22}  {}\n", d.field, d.second, d.proved);
+    let lines: Vec<String> = difference.fields.iter().map(line).collect();
+    format!("  {:<28}  {:<22}  proved engine\n", "", "second engine") + &most_lines(&lines)
 }

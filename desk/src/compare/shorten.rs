@@ -6,6 +6,7 @@ use super::flat::config_fields;
 use super::trial::{Call, Spare, Trial};
 use crate::proved::Engine;
 use crate::second::*;
+use std::ops::Range;
 
 /// The most times that everything is tried again after something could be left out.
 const MOST_ROUNDS: usize = 20;
@@ -25,6 +26,7 @@ pub fn shorten(engine: &dyn Engine, trial: &Trial) -> Trial {
     for _ in 0..MOST_ROUNDS {
         let smaller = [
             shortener.tape(),
+            shortener.edits(),
             shortener.start(),
             shortener.spare(),
             shortener.records(),
@@ -50,12 +52,34 @@ impl Shortener<'_> {
 
     /// Drops what comes after the difference, then halves, quarters and single commands.
     fn tape(&mut self) -> bool {
-        let mut smaller = self.tape_end();
-        let mut piece = (self.best.tape.len() / 8).next_power_of_two();
+        let end = self.tape_end();
+        let commands = |trial: &Trial| trial.tape.len() / 8;
+        let pieces = self.pieces(commands, |trial, gone| {
+            drop(trial.tape.drain(gone.start * 8..gone.end * 8));
+        });
+        end || pieces
+    }
+
+    /// Drops halves, quarters and single edits.
+    fn edits(&mut self) -> bool {
+        self.pieces(
+            |trial| trial.edits.len(),
+            |trial, gone| drop(trial.edits.drain(gone)),
+        )
+    }
+
+    /// Drops halves, quarters and single ones of so many parts, from the last on.
+    fn pieces(
+        &mut self,
+        count: fn(&Trial) -> usize,
+        without: fn(&mut Trial, Range<usize>),
+    ) -> bool {
+        let mut smaller = false;
+        let mut piece = count(&self.best).next_power_of_two();
         while piece > 0 {
-            let mut at = (self.best.tape.len() / 8).saturating_sub(1) / piece * piece;
+            let mut at = count(&self.best).saturating_sub(1) / piece * piece;
             loop {
-                smaller |= self.without_commands(at, piece);
+                smaller |= self.without_parts(at..(at + piece).min(count(&self.best)), without);
                 match at.checked_sub(piece) {
                     Some(next) => at = next,
                     None => break,
@@ -64,6 +88,16 @@ impl Shortener<'_> {
             piece /= 2;
         }
         smaller
+    }
+
+    /// Drops some parts in a row.
+    fn without_parts(&mut self, gone: Range<usize>, without: fn(&mut Trial, Range<usize>)) -> bool {
+        if gone.is_empty() {
+            return false;
+        }
+        let mut candidate = self.best.clone();
+        without(&mut candidate, gone);
+        self.keep(candidate)
     }
 
     /// Drops the commands after the difference and a last piece that is no command.
@@ -76,18 +110,6 @@ impl Shortener<'_> {
         }
         let mut candidate = self.best.clone();
         candidate.tape.truncate(needed * 8);
-        self.keep(candidate)
-    }
-
-    /// Drops some commands in a row.
-    fn without_commands(&mut self, at: usize, count: usize) -> bool {
-        let commands = self.best.tape.len() / 8;
-        let end = (at + count).min(commands);
-        if at >= end {
-            return false;
-        }
-        let mut candidate = self.best.clone();
-        candidate.tape.drain(at * 8..end * 8);
         self.keep(candidate)
     }
 
@@ -143,10 +165,12 @@ impl Shortener<'_> {
 
     /// Makes the buffers as long as the call needs them, or one shorter or longer.
     fn spare(&mut self) -> bool {
-        let plainer: [fn(&mut Spare); 4] = [
+        let plainer: [fn(&mut Spare); 6] = [
             |spare| spare.config = 0,
+            |spare| spare.model = 0,
             |spare| spare.answer = 0,
             |spare| spare.config = spare.config.signum(),
+            |spare| spare.model = spare.model.signum(),
             |spare| spare.answer = spare.answer.signum(),
         ];
         let mut smaller = false;
@@ -319,10 +343,11 @@ fn right_checks(file: &[u8]) -> Vec<bool> {
     file.chunks_exact(BLOCK).map(right).collect()
 }
 
-/// The trial with the shorter file; tape, owner and start follow.
+/// The trial with the shorter file; tape, owner, start and edits follow.
 fn after_cut(trial: &Trial, shorter: &Draft, cut: Cut) -> Vec<Trial> {
     let mut next = trial.clone();
     next.file = shorter.file();
+    next.edits = trial.edits.iter().filter_map(|e| e.after(cut)).collect();
     match cut {
         Cut::Subject(gone) => {
             next.tape = tape_without(&trial.tape, gone);

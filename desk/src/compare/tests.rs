@@ -1,306 +1,23 @@
-//! Comparing against a stand-in for the proved engine, whole and with deliberate faults.
+//! Comparing against the stand-in for the proved engine: no difference where there is none, and every fault found.
 
 use super::calls::*;
 use super::cases::Comparison;
 use super::counts::Counts;
-use super::draft::Draft;
+use super::draft::{Cut, Draft};
+use super::edits::{edited, edits_between, Edit};
 use super::flat::*;
 use super::report::difference_text;
 use super::shorten::shorten;
-use super::trial::Trial;
-use crate::proved::Engine;
+use super::stand_in::{Fault, Fault::*, StandIn};
+use super::trial::{Call, Trial};
+use super::writing_differs;
 use crate::random::*;
 use crate::second::*;
-
-/// What a stand-in does wrong.
-#[derive(Clone, Copy, Debug, PartialEq, Eq)]
-enum Fault {
-    /// Nothing.
-    Whole,
-    /// Deliver hands over content 0.
-    Content,
-    /// Deliver puts the message at the end of the line.
-    Appended,
-    /// A timeout wins over a send that can deliver.
-    Timeout,
-    /// Only the first receiver's place is withdrawn.
-    Withdrawn,
-    /// Marks of senders from n up go unnoticed.
-    Marks,
-    /// The block of refusal 5 is given.
-    Block,
-    /// A limit of 16 is refused.
-    Limit,
-    /// Unused room is not looked at.
-    Room,
-    /// The state of a sleeper is left 0.
-    Sleeper,
-    /// The line of an unknown code shows nothing.
-    Line,
-    /// A walk takes a last piece for a command.
-    Piece,
-    /// Rows may add up to 17.
-    Shares,
-    /// A refused load writes the empty model.
-    Emptied,
-    /// A load into too short a buffer is answered 0.
-    Roomy,
-    /// A refused fresh start writes zeros.
-    Blank,
-    /// A refused step writes zeros for its values.
-    Zeros,
-    /// A step with too little room for its values does all the rest.
-    Stepped,
-    /// A step looks at the buffer of its values last.
-    Last,
-    /// Any byte but 0 says message.
-    Flag,
-    /// A byte says message by its last bit.
-    LastBit,
-    /// A configuration too short is answered 6.
-    Brief,
-    /// A refused step zeroes what is there of a configuration too short.
-    Wiped,
-    /// A configuration that is not valid refuses each command of a tape, not the tape.
-    Each,
-    /// Too short a buffer for lines is answered 0.
-    Short,
-    /// A buffer for lines is looked at before the configuration.
-    Early,
-    /// Lines are written as far as they fit.
-    Partly,
-    /// A walk from a configuration that is not valid is answered 0.
-    Onward,
-    /// A buffer that is longer than needed is cleared to its end.
-    Cleared,
-}
-
-use Fault::*;
-
-/// The second engine behind the calls of the proved one.
-struct StandIn(Fault);
-
-impl StandIn {
-    /// The model of a file, or what loading answers, with the fault.
-    fn loaded(&self, file: &[u8]) -> Result<Model, u16> {
-        let told = load(file).map_err(|r| u16::from(r.number) + 256 * r.block);
-        match (self.0, &told) {
-            (Block, Err(5)) => Err(5 + 256),
-            (Limit, Ok(model)) => {
-                let mut rows = model.subjects.iter().flat_map(|s| &s.limits);
-                match rows.any(|l| l.limit == 16) {
-                    true => Err(4 + 256),
-                    false => told,
-                }
-            }
-            (Room, Err(answer)) if answer % 256 == 3 => {
-                let mut mended = file.to_vec();
-                for block in mended.chunks_exact_mut(BLOCK) {
-                    let used = 4 + usize::from(block[3]).min(RECORDS) * RECORD;
-                    block[used..508].fill(0);
-                    super::draft::mend(block);
-                }
-                load(&mended).map_err(|r| u16::from(r.number) + 256 * r.block)
-            }
-            _ => told,
-        }
-    }
-
-    /// Changes an accepted step's outcome by the fault, or accepts a refused one.
-    fn spoil(
-        &self,
-        model: &Model,
-        before: &Config,
-        config: &mut [u8],
-        b: [u8; 8],
-        refusal: u8,
-    ) -> u8 {
-        let Some(mut after) = Config::from_bytes(config) else {
-            return refusal;
-        };
-        let delivered = b[0] == 3 && refusal == 0;
-        let left = matches!(b[0], 6 | 7) && refusal == 0;
-        let places = |r: usize| before.subjects[r].pool.reservation_of(b[1]);
-        let holders: Vec<usize> = (0..16).filter(|r| places(*r).is_some()).collect();
-        let mut told = refusal;
-        match self.0 {
-            Content if delivered => {
-                for r in holders {
-                    after.subjects[r].pool.entries[places(r).unwrap()].content = 0;
-                }
-            }
-            Appended if delivered => {
-                for r in holders {
-                    let entry = after.subjects[r].pool.remove(places(r).unwrap());
-                    after.subjects[r].pool.push(entry);
-                }
-            }
-            Timeout if refusal == 20 => told = 0,
-            Withdrawn if left => {
-                for r in holders.into_iter().skip(1) {
-                    after.subjects[r].pool = before.subjects[r].pool;
-                }
-            }
-            Marks if refusal == 10 => {
-                let mut whole = *before;
-                let n = model.n();
-                let marks = whole.subjects[..n]
-                    .iter_mut()
-                    .flat_map(|a| &mut a.closed[n..]);
-                marks.for_each(|m| *m = 0);
-                if config_valid(model, &whole) {
-                    told = 0;
-                }
-            }
-            _ => {}
-        }
-        config[..CONFIG_BYTES].copy_from_slice(&after.to_bytes());
-        told
-    }
-
-    /// The bytes of a configuration as the fault reads them.
-    fn misread(&self, config: &[u8]) -> Vec<u8> {
-        let mut bytes = config.to_vec();
-        let entries = (0..16).flat_map(|s| (0..POOL).map(move |e| message_at(s, e)));
-        for at in entries.filter(|at| *at < config.len()) {
-            match self.0 {
-                Flag => bytes[at] = bytes[at].min(1),
-                LastBit => bytes[at] &= 1,
-                _ => {}
-            }
-        }
-        bytes
-    }
-}
-
-impl Engine for StandIn {
-    fn load(&self, file: &[u8], room: &mut [u8]) -> u16 {
-        match self.loaded(file) {
-            Ok(model) if room.len() >= MODEL_BYTES => {
-                room[..MODEL_BYTES].copy_from_slice(&model_bytes(&model));
-                if self.0 == Cleared {
-                    room[MODEL_BYTES..].fill(0);
-                }
-                0
-            }
-            Ok(_) if self.0 == Roomy => 0,
-            Ok(_) => 6,
-            Err(answer) => {
-                if self.0 == Emptied {
-                    room.fill(0);
-                }
-                answer
-            }
-        }
-    }
-
-    fn fresh(&self, file: &[u8], config: &mut [u8]) -> u8 {
-        let refusal = fresh_call(&model_of(file), config);
-        if self.0 == Blank && refusal != 0 {
-            config.fill(0);
-        }
-        if self.0 == Sleeper && refusal == 0 {
-            let mut start = Config::from_bytes(config).unwrap();
-            let sleepers = start.subjects.iter_mut().filter(|a| a.mode == ASLEEP);
-            sleepers.for_each(|a| a.state = 0);
-            config[..CONFIG_BYTES].copy_from_slice(&start.to_bytes());
-        }
-        refusal
-    }
-
-    fn step(&self, file: &[u8], config: &mut [u8], command: &[u8], values: &mut [u8]) -> u8 {
-        let model = model_of(file);
-        let bytes = command.try_into().unwrap();
-        let mut now = self.misread(config);
-        let before = Config::from_bytes(&now);
-        let mut refusal = step_call(&model, &mut now, bytes, values);
-        if let Some(before) = before {
-            refusal = self.spoil(&model, &before, &mut now, bytes, refusal);
-        }
-        match self.0 {
-            Zeros if refusal != 0 => values.fill(0),
-            Stepped if refusal == 6 => {
-                refusal = step_call(&model, &mut now, bytes, &mut [0; VALUE_BYTES]);
-            }
-            Last if refusal == 6 => {
-                let told = step_call(&model, &mut now.clone(), bytes, &mut [0; VALUE_BYTES]);
-                refusal = if told == 0 { 6 } else { told };
-            }
-            Brief if refusal == 10 && config.len() < CONFIG_BYTES => refusal = 6,
-            Wiped if refusal == 10 && config.len() < CONFIG_BYTES => config.fill(0),
-            _ => {}
-        }
-        if refusal == 0 {
-            config.copy_from_slice(&now);
-        }
-        refusal
-    }
-
-    fn run(&self, file: &[u8], config: &mut [u8], tape: &[u8], lines: &mut [u32]) -> u8 {
-        let model = model_of(file);
-        let mut now = self.misread(config);
-        let refusal = run_call(&model, &mut now, tape, lines);
-        let short = lines.len() < numbers_of(tape);
-        match self.0 {
-            Short if refusal == 6 => return 0,
-            Early if refusal == 10 && short => return 6,
-            Partly if refusal == 6 => {
-                let mut whole = vec![0; numbers_of(tape)];
-                run_call(&model, &mut now, tape, &mut whole);
-                lines.copy_from_slice(&whole[..lines.len()]);
-            }
-            Each if refusal == 10 && !short => {
-                for place in lines.chunks_exact_mut(4).take(tape.len() / 8) {
-                    place.copy_from_slice(&[10, 0, 0, 0]);
-                }
-                return 0;
-            }
-            Line if refusal == 0 => {
-                for place in lines.chunks_exact_mut(4).filter(|l| l[0] == 9) {
-                    place[1..].fill(0);
-                }
-            }
-            _ => {}
-        }
-        if refusal == 0 {
-            config.copy_from_slice(&now);
-        }
-        refusal
-    }
-
-    fn walk(&self, file: &[u8], config: &mut [u8], tape: &[u8]) -> u8 {
-        let model = model_of(file);
-        let mut now = self.misread(config);
-        let mut tape = tape.to_vec();
-        if self.0 == Piece {
-            tape.resize(tape.len().next_multiple_of(8), 0);
-        }
-        match walk_call(&model, &mut now, &tape) {
-            0 => config.copy_from_slice(&now),
-            10 if self.0 == Onward => {}
-            refusal => return refusal,
-        }
-        0
-    }
-
-    fn shared(&self, file: &[u8], owner: u8) -> u8 {
-        let mut model = model_of(file);
-        if let (Shares, Some(s)) = (self.0, model.subjects.get_mut(usize::from(owner))) {
-            if let Some(row) = s.limits.iter_mut().find(|l| l.limit > 1) {
-                row.limit -= 1;
-            }
-        }
-        shared_call(&model, owner)
-    }
-}
 
 /// The first difference within some cases, made short.
 fn found(fault: Fault, cases: u64) -> Option<Trial> {
     let engine = StandIn(fault);
-    let mut comparison = Comparison {
-        engine: &engine,
-        counts: Counts::default(),
-    };
+    let mut comparison = Comparison::of(&engine);
     let trial = (0..cases)
         .find_map(|case| comparison.case(1, case).err())?
         .trial;
@@ -310,10 +27,7 @@ fn found(fault: Fault, cases: u64) -> Option<Trial> {
 #[test]
 fn finds_no_difference_where_there_is_none() {
     let engine = StandIn(Whole);
-    let mut comparison = Comparison {
-        engine: &engine,
-        counts: Counts::default(),
-    };
+    let mut comparison = Comparison::of(&engine);
     for case in 0..150 {
         assert!(comparison.case(3, case).is_ok());
     }
@@ -328,6 +42,10 @@ fn finds_no_difference_where_there_is_none() {
         counts.none > 400 && counts.configs > 2 * counts.none,
         "{table}"
     );
+    assert!(counts.writes.iter().all(|c| *c > 400), "{table}");
+    let not = counts.edited - counts.still_valid;
+    assert!(counts.still_valid > 400 && not > 400, "{table}");
+    assert!(counts.back == counts.loaded, "{table}");
 }
 
 #[test]
@@ -335,20 +53,60 @@ fn finds_faults_and_makes_them_short() {
     let faults = [
         Content, Appended, Timeout, Withdrawn, Marks, Block, Limit, Room, Sleeper, Line, Piece,
         Shares, Emptied, Roomy, Blank, Zeros, Stepped, Last, Flag, LastBit, Brief, Wiped, Each,
-        Short, Early, Partly, Onward, Cleared,
+        Short, Early, Partly, Onward, Cleared, Unsealed, Behind, Sooner, Unswept, Partial, Told,
+        Tight, Spoilt, Trusting, Loose, Filled, Strict, Clamped,
     ];
     for fault in faults {
         let trial = found(fault, 200).unwrap_or_else(|| panic!("{fault:?} not found"));
         let difference = trial.differs(&StandIn(fault), &mut Counts::default());
         let text = difference_text(&trial, &difference.unwrap());
         let size = Draft::of(&trial.file).map_or(trial.file.len(), |d| d.size());
-        let length = (trial.tape.len() / 8, size);
+        let length = (trial.tape.len() / 8, size, trial.edits.len());
         println!("{fault:?}: {length:?}");
         assert!(
-            length.0 <= 12 && length.1 <= 24,
+            length.0 <= 12 && length.1 <= 24 && length.2 <= 4,
             "{fault:?}: {length:?}\n{text}"
         );
     }
+}
+
+#[test]
+fn a_file_written_back_otherwise_is_found_by_loading_and_by_writing() {
+    let file = file_of(&fullest(0));
+    for fault in [Whole, Unsealed, Behind, Unswept] {
+        let engine = StandIn(fault);
+        let mut counts = Counts::default();
+        for trial in [
+            Trial::of_file(Call::Load, &file),
+            Trial::of_write(&file, Vec::new(), 1),
+        ] {
+            let found = trial.differs(&engine, &mut counts).is_some();
+            assert_eq!(found, fault != Whole, "{fault:?} {:?}", trial.call);
+        }
+        assert_eq!((counts.back, counts.writes), (1, [1, 0, 0]));
+    }
+}
+
+#[test]
+fn one_exit_more_than_there_may_be_is_tried() {
+    let engine = StandIn(Crowded);
+    let mut comparison = Comparison::of(&engine);
+    let found = (0..20).find_map(|case| comparison.case(1, case).err());
+    let found = found.unwrap();
+    let text = difference_text(&found.trial, &found.difference);
+    assert!(text.contains("edited:\n  s15 t31 exits 2 -> 3\n"), "{text}");
+    assert!(text.contains("refusal 8               a file of 22016 bytes"));
+}
+
+#[test]
+fn a_build_says_where_the_proved_engine_writes_otherwise() {
+    let file = file_of(&fullest(0));
+    assert_eq!(writing_differs(&StandIn(Whole), &file), None);
+    let text = writing_differs(&StandIn(Unsealed), &file).unwrap();
+    assert!(text.contains("writing the model (zs_write):\n"), "{text}");
+    assert!(text.contains("\n  block 42 check "), "{text}");
+    let text = writing_differs(&StandIn(Tight), &file).unwrap();
+    assert!(text.contains("a file of 22016 bytes   refusal 6"), "{text}");
 }
 
 #[test]
@@ -357,7 +115,13 @@ fn flat_layouts_have_their_sizes() {
     assert_eq!(end(model_fields()), Some(MODEL_BYTES));
     assert_eq!(end(config_fields()), Some(CONFIG_BYTES));
     assert_eq!(end(value_fields()), Some(VALUE_BYTES));
-    assert_eq!(model_bytes(&Model::default()), vec![0; MODEL_BYTES]);
+    assert_eq!(end(file_fields(43)), Some(43 * BLOCK));
+    let at = |field: &str| model_fields().iter().find(|f| f.name == field).unwrap().at;
+    assert_eq!(at("s3 states"), subject_at(3));
+    assert_eq!(at("s3 row 7 sender"), row_at(3, 7));
+    assert_eq!(at("s3 t31 kind"), state_at(3, 31));
+    assert_eq!(at("s3 t31 exit 7 target"), exit_at(3, 31, 7));
+    assert_eq!(Model::default().to_bytes(), vec![0; MODEL_BYTES]);
 }
 
 #[test]
@@ -403,6 +167,70 @@ fn brimming_models_stand_on_either_side_of_the_edge() {
     assert!(counts.iter().all(|c| *c > 150), "{counts:?}");
 }
 
+/// Why bytes may not be written: more than 8 exits in a state, exits without a kind, something in an exit's place past
+/// the state's own, or else a count or a field of the model.
+fn reason(bytes: &[u8]) -> usize {
+    let states = || bytes[state_at(0, 0)..].chunks_exact(STATE_BYTES);
+    let past = |s: &[u8]| {
+        s[10..]
+            .iter()
+            .skip(usize::from(s[1]) * EXIT_BYTES)
+            .any(|b| *b != 0)
+    };
+    let reasons = [
+        states().any(|s| s[1] > 8),
+        states().any(|s| s[0] == 0 && s[1] != 0),
+        states().any(past),
+    ];
+    reasons.iter().position(|r| *r).unwrap_or(reasons.len())
+}
+
+#[test]
+fn edits_come_in_every_sort() {
+    let mut rng = Rng::new(13);
+    let (mut valid, mut reasons) = (0, [0; 4]);
+    for _ in 0..4_000 {
+        let model = random_model(&mut rng);
+        let bytes = edited(&mut rng, &model);
+        match write_call(&bytes, &mut [0; MOST_BLOCKS * BLOCK]) {
+            8 => reasons[reason(&bytes)] += 1,
+            answer => valid += usize::from(answer >= 256),
+        }
+    }
+    assert!(reasons.iter().all(|c| *c > 100), "{reasons:?}");
+    assert!(valid > 1_200 && valid < 2_800, "{valid}");
+}
+
+#[test]
+fn edits_lead_from_one_model_to_another_and_follow_a_cut() {
+    let mut rng = Rng::new(14);
+    for _ in 0..500 {
+        let model = random_model(&mut rng);
+        let bytes = edited(&mut rng, &model);
+        let edits = edits_between(&model.to_bytes(), &bytes);
+        assert_eq!(
+            Trial::of_write(&file_of(&model), edits, 0).edited_model(),
+            bytes
+        );
+    }
+    let after = |at: usize, cut: Cut| Edit { at, value: 1 }.after(cut).map(|e| e.at);
+    let (subject, state, exit) = (Cut::Subject(2), Cut::State(2, 5), Cut::Exit(2, 5, 1));
+    assert_eq!(after(row_at(1, 7), subject), Some(row_at(1, 7)));
+    assert_eq!(after(row_at(2, 7), subject), None);
+    assert_eq!(after(row_at(3, 7), subject), Some(row_at(2, 7)));
+    assert_eq!(after(exit_at(2, 5, 1), subject), None);
+    assert_eq!(after(exit_at(15, 5, 1), subject), Some(exit_at(14, 5, 1)));
+    assert_eq!(after(exit_at(2, 4, 7), state), Some(exit_at(2, 4, 7)));
+    assert_eq!(after(exit_at(2, 5, 7), state), None);
+    assert_eq!(after(exit_at(2, 31, 7), state), Some(exit_at(2, 30, 7)));
+    assert_eq!(after(state_at(3, 0), state), Some(state_at(3, 0)));
+    assert_eq!(after(exit_at(2, 5, 0), exit), Some(exit_at(2, 5, 0)));
+    assert_eq!(after(exit_at(2, 5, 1), exit), None);
+    assert_eq!(after(exit_at(2, 5, 7), exit), Some(exit_at(2, 5, 6)));
+    assert_eq!(after(state_at(2, 6), exit), Some(state_at(2, 6)));
+    assert_eq!(after(0, Cut::Sleepers), Some(0));
+}
+
 /// A buffer of any bytes, as long as needed or not.
 fn any_buffer(rng: &mut Rng, need: usize) -> Vec<u8> {
     let most = rng.pick(&[need, need, need + 1, need.saturating_sub(1), 0]);
@@ -423,7 +251,7 @@ fn any_config(rng: &mut Rng, model: &Model) -> Vec<u8> {
 }
 
 /// For each call of the second engine whether it was refused, and whether it left all buffers as they were.
-fn outcomes(rng: &mut Rng, valid: &Model, file: &[u8]) -> [(bool, bool); 5] {
+fn outcomes(rng: &mut Rng, valid: &Model, file: &[u8]) -> [(bool, bool); 6] {
     let model = model_of(file);
     let config = any_config(rng, valid);
     let tape = random_tape(rng, valid, 3);
@@ -432,6 +260,9 @@ fn outcomes(rng: &mut Rng, valid: &Model, file: &[u8]) -> [(bool, bool); 5] {
     let values = any_buffer(rng, VALUE_BYTES);
     let lines = vec![7; any_buffer(rng, numbers_of(&tape)).len()];
     let command = tape[..8].try_into().unwrap();
+    let written = edited(rng, valid);
+    let blocks = any_buffer(rng, file.len());
+    let mut w = blocks.clone();
     let (mut r, mut f) = (room.clone(), empty.clone());
     let (mut v, mut l) = (values.clone(), lines.clone());
     let [mut a, mut b, mut c] = [&config; 3].map(Vec::clone);
@@ -441,6 +272,7 @@ fn outcomes(rng: &mut Rng, valid: &Model, file: &[u8]) -> [(bool, bool); 5] {
         step_call(&model, &mut a, command, &mut v) != 0,
         run_call(&model, &mut b, &tape, &mut l) != 0,
         walk_call(&model, &mut c, &tape) != 0,
+        write_call(&written, &mut w) < 256,
     ];
     let left = [
         r == room,
@@ -448,6 +280,7 @@ fn outcomes(rng: &mut Rng, valid: &Model, file: &[u8]) -> [(bool, bool); 5] {
         a == config && v == values,
         b == config && l == lines,
         c == config,
+        w == blocks,
     ];
     std::array::from_fn(|i| (refusals[i], left[i]))
 }
@@ -455,7 +288,7 @@ fn outcomes(rng: &mut Rng, valid: &Model, file: &[u8]) -> [(bool, bool); 5] {
 #[test]
 fn a_refused_call_of_the_second_engine_changes_no_byte() {
     let mut rng = Rng::new(12);
-    let mut counts = [[0; 2]; 5];
+    let mut counts = [[0; 2]; 6];
     for _ in 0..3_000 {
         let model = random_model(&mut rng);
         let mut file = file_of(&model);

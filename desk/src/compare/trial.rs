@@ -2,6 +2,7 @@
 
 use super::calls::*;
 use super::counts::Counts;
+use super::edits::Edit;
 use super::flat::*;
 use crate::proved::Engine;
 use crate::second::*;
@@ -9,11 +10,14 @@ use crate::second::*;
 /// What the bytes and the numbers of a buffer are before a call.
 const UNTOUCHED: u8 = 0xa5;
 const UNTOUCHED_NUMBER: u32 = 0xa5a5_a5a5;
+/// The bytes behind a file in the room that it is written back to.
+const BEHIND: usize = 20;
 
 /// The call that is compared.
 #[derive(Clone, Copy, Debug, PartialEq, Eq)]
 pub enum Call {
     Load,
+    Write,
     Shared,
     Fresh,
     Step,
@@ -21,7 +25,7 @@ pub enum Call {
     Walk,
 }
 
-/// A question to both engines. A load, a share and a fresh start need only some of it.
+/// A question to both engines. All but a tape need only some of it.
 #[derive(Clone, Debug)]
 pub struct Trial {
     pub call: Call,
@@ -30,6 +34,8 @@ pub struct Trial {
     /// Where the tape starts, in bytes; the fresh start unless said otherwise.
     pub start: Option<[u8; CONFIG_BYTES]>,
     pub tape: Vec<u8>,
+    /// What is edited in the bytes of the file's model before it is written.
+    pub edits: Vec<Edit>,
     pub spare: Spare,
 }
 
@@ -38,7 +44,9 @@ pub struct Trial {
 pub struct Spare {
     /// The buffer of the configuration.
     pub config: isize,
-    /// The buffer of the model, the values or the lines.
+    /// The bytes of a model that is written.
+    pub model: isize,
+    /// The buffer of the model, the values or the lines, or the room of a written file, as it was before an edit.
     pub answer: isize,
 }
 
@@ -57,6 +65,11 @@ pub struct Difference {
     pub fields: Vec<Differing>,
 }
 
+/// A room whose bytes are not zero and not all the same, so that one that is moved shows too.
+fn marked(long: usize) -> Vec<u8> {
+    (0..long).map(|at| at as u8 | 1).collect()
+}
+
 impl Trial {
     /// A call that needs only the file.
     pub fn of_file(call: Call, file: &[u8]) -> Trial {
@@ -66,7 +79,21 @@ impl Trial {
             owner: 0,
             start: None,
             tape: Vec::new(),
+            edits: Vec::new(),
             spare: Spare::default(),
+        }
+    }
+
+    /// Writing the model of a file, edited, to a room that is longer than the file by so much.
+    pub fn of_write(file: &[u8], edits: Vec<Edit>, room: isize) -> Trial {
+        let spare = Spare {
+            answer: room,
+            ..Spare::default()
+        };
+        Trial {
+            edits,
+            spare,
+            ..Trial::of_file(Call::Write, file)
         }
     }
 
@@ -101,6 +128,23 @@ impl Trial {
         bytes
     }
 
+    /// The bytes of the file's model, edited: all zero where the file does not load.
+    pub fn edited_model(&self) -> Vec<u8> {
+        let mut bytes = model_of(&self.file).to_bytes();
+        self.edits.iter().for_each(|e| bytes[e.at] = e.value);
+        bytes
+    }
+
+    /// The bytes of the model that is written, with more or less of them than it needs.
+    fn model_buffer(&self) -> Vec<u8> {
+        let mut bytes = self.edited_model();
+        bytes.resize(
+            MODEL_BYTES.saturating_add_signed(self.spare.model),
+            UNTOUCHED,
+        );
+        bytes
+    }
+
     /// A buffer for an answer, with more or less room than it needs.
     fn answer_buffer<T: Copy>(&self, value: T, need: usize) -> Vec<T> {
         vec![value; need.saturating_add_signed(self.spare.answer)]
@@ -110,6 +154,7 @@ impl Trial {
     pub fn differs(&self, engine: &dyn Engine, counts: &mut Counts) -> Option<Difference> {
         match self.call {
             Call::Load => self.load_differs(engine, counts),
+            Call::Write => self.write_differs(engine, counts),
             Call::Shared => self.share_differs(engine, counts),
             Call::Fresh => self.fresh_differs(engine, counts),
             Call::Step => self.steps_differ(engine, counts),
@@ -118,18 +163,54 @@ impl Trial {
         }
     }
 
-    /// Loading: refusal, block and the whole buffer.
+    /// Loading: refusal, block and the whole buffer. What loads is written back.
     fn load_differs(&self, engine: &dyn Engine, counts: &mut Counts) -> Option<Difference> {
         let mut second = self.answer_buffer(UNTOUCHED, MODEL_BYTES);
         let mut proved = second.clone();
         let expected = load_call(&self.file, &mut second);
         let told = engine.load(&self.file, &mut proved);
         counts.file(expected as u8);
-        let difference = Difference::default().loads(expected, told);
+        let difference = Difference::default().answer("load", load_text, expected, told);
         if expected != told {
             return difference.found();
         }
-        difference.bytes(model_fields, &second, &proved).found()
+        let difference = difference.bytes(model_fields, &second, &proved).found();
+        if difference.is_some() || expected != 0 {
+            return difference;
+        }
+        self.back_differs(engine, &proved, counts)
+    }
+
+    /// Writing back what the proved engine loaded: the bytes of the file, and those behind it as they were.
+    fn back_differs(
+        &self,
+        engine: &dyn Engine,
+        loaded: &[u8],
+        counts: &mut Counts,
+    ) -> Option<Difference> {
+        let mut proved = marked(self.file.len() + BEHIND);
+        let mut expected = proved.clone();
+        expected[..self.file.len()].copy_from_slice(&self.file);
+        let length = 256 * self.file.len() as u32;
+        let told = engine.write(loaded, &mut proved);
+        counts.back += 1;
+        Difference::default()
+            .written((length, &expected), (told, &proved))
+            .found()
+    }
+
+    /// Writing: the answer and the whole room.
+    fn write_differs(&self, engine: &dyn Engine, counts: &mut Counts) -> Option<Difference> {
+        let model = self.model_buffer();
+        let room = self.file.len().saturating_add_signed(self.spare.answer);
+        let mut second = marked(room);
+        let mut proved = second.clone();
+        let expected = write_call(&model, &mut second);
+        let told = engine.write(&model, &mut proved);
+        counts.write(expected as u8, !self.edits.is_empty());
+        Difference::default()
+            .written((expected, &second), (told, &proved))
+            .found()
     }
 
     /// The yes/no for one pool.
@@ -137,11 +218,9 @@ impl Trial {
         let expected = shared_call(&model_of(&self.file), self.owner);
         let told = engine.shared(&self.file, self.owner);
         counts.share(expected);
-        let mut difference = Difference::default();
-        if expected != told {
-            difference.add("shared out", share_text(expected), share_text(told));
-        }
-        difference.found()
+        Difference::default()
+            .answer("shared out", share_text, expected, told)
+            .found()
     }
 
     /// The fresh start: refusal and the whole buffer.
@@ -229,6 +308,14 @@ fn load_text(answer: u16) -> String {
     }
 }
 
+fn write_text(answer: u32) -> String {
+    match (answer % 256, answer / 256) {
+        (0, length) => format!("a file of {length} bytes"),
+        (refusal, 0) => format!("refusal {refusal}"),
+        (refusal, length) => format!("refusal {refusal}, length {length}"),
+    }
+}
+
 fn share_text(answer: u8) -> String {
     match answer {
         0 => "no".to_string(),
@@ -263,12 +350,27 @@ impl Difference {
         self
     }
 
-    /// With two answers of a load, where they differ.
-    fn loads(mut self, second: u16, proved: u16) -> Difference {
+    /// With two answers in words, where they differ.
+    fn answer<T: Copy + PartialEq>(
+        mut self,
+        field: &str,
+        text: fn(T) -> String,
+        second: T,
+        proved: T,
+    ) -> Difference {
         if second != proved {
-            self.add("load", load_text(second), load_text(proved));
+            self.add(field, text(second), text(proved));
         }
         self
+    }
+
+    /// With the answers of two writes where they differ, else with what differs in the rooms.
+    fn written(self, second: (u32, &[u8]), proved: (u32, &[u8])) -> Difference {
+        if second.0 != proved.0 {
+            return self.answer("write", write_text, second.0, proved.0);
+        }
+        let blocks = second.0 as usize / 256 / BLOCK;
+        self.bytes(|| file_fields(blocks), second.1, proved.1)
     }
 
     /// With every number of two buffers of lines that differs; the first line that does is the command.
@@ -286,7 +388,12 @@ impl Difference {
     }
 
     /// With every field of two buffers that differs, and every byte that belongs to no whole field.
-    fn bytes(mut self, fields: fn() -> Vec<Field>, second: &[u8], proved: &[u8]) -> Difference {
+    fn bytes(
+        mut self,
+        fields: impl FnOnce() -> Vec<Field>,
+        second: &[u8],
+        proved: &[u8],
+    ) -> Difference {
         if second == proved {
             return self;
         }

@@ -1,4 +1,4 @@
-//! The loader, its five stages, and the writer of model files.
+//! The loader, its five stages, and the file of a model.
 
 use super::types::*;
 

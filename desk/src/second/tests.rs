@@ -828,3 +828,201 @@ fn improper_goes_before_closed_and_closed_before_full() {
     assert_eq!(step(&m, &mut config, cancel), Answer::Done);
     assert_eq!(step(&m, &mut config, RESERVE_0), answer(4, 0, 0));
 }
+
+/// A block of these records with the check given.
+fn block_of(number: u8, kind: u8, records: &[&[u8]], sum: u32) -> Vec<u8> {
+    let mut block = vec![number, 0, kind, records.len() as u8];
+    for r in records {
+        block.extend(*r);
+        block.resize(block.len() + RECORD - r.len(), 0);
+    }
+    block.resize(508, 0);
+    block.extend(sum.to_le_bytes());
+    block
+}
+
+/// The file of P, written by hand from the rules.
+fn p_by_hand() -> Vec<u8> {
+    let header: [&[u8]; 3] = [&[2, 3, 0], &[0, 3, 0], &[1, 2, 0]];
+    let states: [&[u8]; 5] = [
+        &[0, 0, 1, 1, 255, 255, 0, 0, 255, 255, 0, 0],
+        &[0, 1, 2, 1, 255, 255, 0, 0, 255, 0, 2, 0],
+        &[0, 2, 7, 0, 255, 255, 0, 0, 255, 255, 0, 0],
+        &[1, 0, 3, 1, 255, 255, 3, 0, 1, 255, 0, 0],
+        &[1, 1, 7, 0, 255, 255, 0, 0, 255, 255, 0, 0],
+    ];
+    let exits: [&[u8]; 3] = [
+        &[0, 0, 0, 1, 255, 255],
+        &[0, 1, 0, 2, 255, 0],
+        &[1, 0, 0, 1, 0, 0],
+    ];
+    [
+        block_of(0, 1, &header, 0x8cf1_dcd0),
+        block_of(1, 2, &states, 0xa707_fc5a),
+        block_of(2, 3, &exits, 0x360c_234c),
+        block_of(3, 4, &[&[1, 0, 255, 1]], 0x6721_28ea),
+    ]
+    .concat()
+}
+
+#[test]
+fn model_p_is_written_as_by_hand() {
+    let mut room = [0xa5; 4 * BLOCK];
+    assert_eq!(write(&model_p(), &mut room), Ok(4 * BLOCK));
+    assert_eq!(room[..], p_by_hand());
+    let loaded = load(&p_by_hand()).unwrap();
+    assert_eq!(write(&loaded, &mut room), Ok(4 * BLOCK));
+    assert_eq!(room[..], p_by_hand());
+}
+
+#[test]
+fn rooms_either_side_of_the_length() {
+    let length = 4 * BLOCK;
+    for long in [0, 1, BLOCK, length - 1, length, length + 1, length + BLOCK] {
+        let marked: Vec<u8> = (0..long).map(|i| i as u8 | 1).collect();
+        let mut room = marked.clone();
+        let answer = write(&model_p(), &mut room);
+        if long < length {
+            assert_eq!((answer, &room), (Err(6), &marked));
+        } else {
+            assert_eq!(answer, Ok(length));
+            assert_eq!(room[..length], p_by_hand());
+            assert_eq!(room[length..], marked[length..]);
+        }
+    }
+}
+
+/// What a model answers that is written and loaded again.
+fn written_and_loaded(model: &Model) -> Result<Model, u8> {
+    let mut room = [0xa5; MOST_BLOCKS * BLOCK];
+    let length = write(model, &mut room)?;
+    load(&room[..length]).map_err(|r| r.number)
+}
+
+#[test]
+fn edits_that_fit_are_written_and_load_again() {
+    let edits: [fn(&mut Model); 9] = [
+        |m| m.subjects[1].limits[0].limit = 16,
+        |m| m.subjects[1].limits.clear(),
+        |m| m.subjects[0].states[1].exits[0].target = 0,
+        |m| m.subjects[0].states[1].cancel = NONE,
+        |m| m.subjects[1].states[0].duration = u16::MAX,
+        |m| m.subjects[0].states[0].exits = vec![exit(1, ANY, ANY); 8],
+        |m| m.subjects[1].states.resize(32, state(END, &[])),
+        |m| m.start = 2,
+        |m| m.subjects.resize(16, model_p().subjects[0].clone()),
+    ];
+    for (i, edit) in edits.into_iter().enumerate() {
+        let mut model = model_p();
+        edit(&mut model);
+        assert_ne!(model, model_p());
+        assert_eq!(written_and_loaded(&model), Ok(model), "edit {i}");
+    }
+    assert_eq!(written_and_loaded(&largest()), Ok(largest()));
+}
+
+/// Whether a model is refused 8 by rooms of every sort and leaves their bytes.
+fn refused_anywhere(model: &Model) -> bool {
+    [0, 1, BLOCK, 4 * BLOCK - 1, 4 * BLOCK, 44 * BLOCK]
+        .into_iter()
+        .all(|long| {
+            let mut room = vec![0xa5; long];
+            write(model, &mut room) == Err(8) && room.iter().all(|b| *b == 0xa5)
+        })
+}
+
+#[test]
+fn edits_into_nonsense_are_refused_before_the_room_is_looked_at() {
+    let edits: [fn(&mut Model); 18] = [
+        |m| *m = Model::default(),
+        |m| m.start = 0,
+        |m| m.start = 4,
+        |m| m.subjects[0].initial = 2,
+        |m| m.subjects[0].initial = 3,
+        |m| m.subjects[0].states.truncate(2),
+        |m| m.subjects[1].states.clear(),
+        |m| m.subjects[1].limits[0].limit = 0,
+        |m| m.subjects[1].limits[0].limit = 17,
+        |m| m.subjects[1].limits[0].sender = 2,
+        |m| {
+            m.subjects[1]
+                .limits
+                .extend(model_p().subjects[1].limits.clone())
+        },
+        |m| m.subjects[0].states[0].kind = 0,
+        |m| m.subjects[0].states[0].kind = END,
+        |m| m.subjects[0].states[0].exits = vec![exit(1, ANY, ANY); 9],
+        |m| m.subjects[0].states[1].receivers = 0,
+        |m| m.subjects[0].states[1].exits[0].typ = 32,
+        |m| m.subjects[1].states[0].duration = 0,
+        |m| m.subjects[1].states[0].exits[0].target = 2,
+    ];
+    for (i, edit) in edits.into_iter().enumerate() {
+        let mut model = model_p();
+        edit(&mut model);
+        assert!(refused_anywhere(&model), "edit {i}");
+    }
+}
+
+#[test]
+fn what_does_not_fit_is_refused_and_not_cut_off() {
+    let (n, count, exits, rows) = (256 + 2, 256 + 2, 256 + 1, 256 + 1);
+    let edits: [&dyn Fn(&mut Model); 4] = [
+        &|m| m.subjects.resize(n, model_p().subjects[1].clone()),
+        &|m| m.subjects[1].states.resize(count, state(END, &[])),
+        &|m| m.subjects[0].states[0].exits = vec![exit(1, ANY, ANY); exits],
+        &|m| m.subjects[1].limits = vec![model_p().subjects[1].limits[0]; rows],
+    ];
+    for (i, edit) in edits.into_iter().enumerate() {
+        let mut model = model_p();
+        edit(&mut model);
+        assert!(refused_anywhere(&model), "edit {i}");
+    }
+    let mut more = largest();
+    more.subjects[0].states[0].exits.push(exit(0, ANY, ANY));
+    assert!(refused_anywhere(&more));
+}
+
+#[test]
+fn a_model_in_bytes_either_way() {
+    let bytes = model_p().to_bytes();
+    assert_eq!(Model::from_bytes(&bytes), Some(model_p()));
+    assert_eq!(bytes[..6], [2, 3, 0, 3, 0, 0]);
+    assert_eq!(bytes[subject_at(1)..][..6], [2, 0, 1, 0, 255, 1]);
+    assert_eq!(bytes[state_at(0, 1)..][..5], [2, 1, 255, 255, 0]);
+    assert_eq!(bytes[exit_at(1, 0, 0)..][..4], [1, 0, 0, 0]);
+    let longer = [&bytes[..], &[7, 7]].concat();
+    assert_eq!(Model::from_bytes(&longer), Some(model_p()));
+    assert_eq!(Model::from_bytes(&bytes[..MODEL_BYTES - 1]), None);
+    assert_eq!(Model::from_bytes(&[]), None);
+    let empty = Model::from_bytes(&[0; MODEL_BYTES]);
+    assert_eq!(empty, Some(Model::default()));
+    assert_eq!(largest().to_bytes().len(), MODEL_BYTES);
+    let read = Model::from_bytes(&largest().to_bytes());
+    assert_eq!(read, Some(largest()));
+}
+
+#[test]
+fn bytes_that_are_no_model() {
+    let more_than_there_is_room_for = [
+        (0, 17),
+        (subject_at(0), 33),
+        (subject_at(1) + 2, 9),
+        (state_at(0, 0) + 1, 9),
+    ];
+    let not_used = [
+        (subject_at(2), 1),
+        (row_at(1, 1), 1),
+        (state_at(0, 3), 7),
+        (state_at(1, 2) + 1, 1),
+        (state_at(15, 31) + 33, 1),
+        (exit_at(0, 0, 1), 1),
+        (exit_at(0, 2, 0) + 2, 255),
+        (exit_at(1, 0, 7) + 2, 1),
+    ];
+    for (at, value) in more_than_there_is_room_for.into_iter().chain(not_used) {
+        let mut bytes = model_p().to_bytes();
+        bytes[at] = value;
+        assert_eq!(Model::from_bytes(&bytes), None, "byte {at}");
+    }
+}

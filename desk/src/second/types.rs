@@ -16,6 +16,7 @@ pub const END: u8 = 7;
 
 pub const MOST_SUBJECTS: usize = 16;
 pub const MOST_STATES: usize = 32;
+pub const MOST_STATE_EXITS: usize = 8;
 pub const MOST_EXITS: usize = 1024;
 pub const MOST_ROWS: usize = 8;
 pub const TYPES: u8 = 32;
@@ -109,7 +110,7 @@ impl Limit {
 /// How many exits a state of this kind has; an empty range for no such kind.
 pub fn exits_allowed(kind: u8) -> RangeInclusive<usize> {
     match kind {
-        INTERNAL | RECEIVE => 1..=8,
+        INTERNAL | RECEIVE => 1..=MOST_STATE_EXITS,
         SEND | CLOSE | OPEN => 1..=1,
         ASK_EMPTY => 2..=2,
         END => 0..=0,

@@ -1,10 +1,7 @@
 -- Every public call has one result: two results that its contract allows are equal. `Learnt` is the contract's ensures, as a caller has it.
-use mathlib.Core.Path.{_≡_, sym, _∙_}
-use borrow.Fn.Kinds.{Dens, resT, endedOf}
-use contract.Lifetimes.{Lfts}
-use denote.Triple.Clauses.{AtExit}
+use mathlib.Core.Path.{sym, _∙_}
 use denote.Ref.{now}
-use Rattle.model_promises.specs.One.{OneResult}
+use Rattle.model_promises.specs.One.{OneResult, OneStore}
 use Rattle.engine.proofs.refusal.Reads as refusal-call
 use Rattle.engine.proofs.refusal.Kinds as refusal-call-kinds
 use Rattle.engine.proofs.shared_out.Reads as shared-out-call
@@ -39,6 +36,5 @@ pub step-coded-one : OneResult 0 step-coded-call-kinds.ps step-coded-call-kinds.
 step-coded-one κs a x y e p q = p ∙ sym q
 
 -- and what stands in the lent buffer at the end
-pub run-one : (κs : Lfts 2) (a : Dens κs run-call-kinds.ps) (x y : resT run-call-kinds.r κs .Denot) (e f : AtExit (endedOf 2 run-call-kinds.ps run-call-kinds.r) κs)
-    → run-call.Learnt κs a x e → run-call.Learnt κs a y f → (x ≡ y) × (now (e .1 .1 .1 .0) ≡ now (f .1 .1 .1 .0))
+pub run-one : OneStore 2 run-call-kinds.ps run-call-kinds.r (λ κs e. now (e .1 .1 .1 .0)) run-call.Learnt
 run-one κs a x y e f p q = (p .0 ∙ sym (q .0), p .1 ∙ sym (q .1))

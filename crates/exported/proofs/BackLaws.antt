@@ -27,7 +27,7 @@ use Rattle.engine.proofs.Machine.{machine-held}
 use Rattle.sets.specs.Stores.{eachOf}
 use Rattle.exported.specs.Bytes.{shortBytes, wordBytes, configSize, entryBytes, fieldBytes, marksBytes, entriesBytes, subjectBytes, configBytes, shortOf, wordOf, entryFrom, marksFrom, entriesFrom, subjectFrom, configFrom, flagPlace, flagsRight, isConfig}
 use Rattle.exported.specs.Laws.{WrittenIsRead}
-use Rattle.sets.proofs.Stores.{length-each}
+use Rattle.sets.proofs.Stores.{length-each, each-same}
 use Rattle.exported.proofs.ByteLaws.{length-entry, length-marks, length-subject, length-config}
 
 -- ---- numbers
@@ -191,11 +191,6 @@ pieces size zero b = ap (λ (k : ℕ). take k b) (let e : 0 ≡ size * 0 = omega
 pieces size (suc n) b =
     let e : size * suc n ≡ size * n + size = omega arith in
     ap (λ (l : List ℕ). l ++ take size (drop (size * n) b)) (pieces size n b) ∙ sym (take-add (size * n) size b) ∙ ap (λ (k : ℕ). take k b) (sym e)
-
-pub each-same : (f g : ℕ → List ℕ) (n : ℕ) → ((i : ℕ) → i < n → f i ≡ g i) → eachOf f n ≡ eachOf g n
-unfolding eachOf
-each-same f g zero h = refl
-each-same f g (suc n) h = rw (each-same f g n (λ i l. h i (omega arith)), h n (omega arith))
 
 -- marks
 marks-same : (b : List ℕ) → AreBytes b → 64 ≤ length b → marksBytes (marksFrom b) ≡ take 64 b

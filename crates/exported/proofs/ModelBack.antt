@@ -28,10 +28,13 @@ use Rattle.model.specs.declared.Stored.{Stored}
 use Rattle.model.specs.declared.Subject.{Subject}
 use Rattle.model.proofs.Facts.{Empty, GoodModel, model-good, exitsOf, exit-is}
 use Rattle.model_promises.specs.Loads.{AreBytes}
-use Rattle.exported.specs.Bytes.{shortOf, modelSize, rowBytes, ownBytes, exitBytes, headBytes, stateBytes, modelBytes, rowFrom, ownFrom, stateIn, exitsIn, headFrom, storedFrom, exitsFrom, modelFrom, isModel}
+use Rattle.exported.specs.Bytes.{shortOf, modelSize, rowBytes, ownBytes, exitBytes, headBytes, stateBytes, modelBytes, rowFrom, ownFrom, stateIn, exitsIn, headFrom, storedFrom, exitLine, modelFrom, isModel}
 use Rattle.exported.specs.Laws.{ModelWrittenIsRead}
-use Rattle.exported.proofs.BackLaws.{short-back, drop-each, each-byte, rest-bytes, short-parts, three, pieces, each-same}
-use Rattle.exported.proofs.ModelLaws.{line-of, IsState, IsModel, is-model, model-is, zeros-by, zeros-each}
+use Rattle.sets.proofs.Stores.{each-same}
+use Rattle.exported.proofs.BackLaws.{short-back, drop-each, each-byte, rest-bytes, short-parts, three, pieces}
+use Rattle.sets.proofs.LineStores.{line-of}
+use Rattle.sets.proofs.Pieces.{zeros-by, zero-at}
+use Rattle.exported.proofs.ModelLaws.{IsState, IsModel, is-model, model-is}
 use Rattle.exported.proofs.ByteLaws.{length-own, length-state, length-model}
 
 -- ---- the parts of a model's bytes
@@ -161,8 +164,8 @@ module _ (m : Model) (good : GoodModel m) where
 
   -- byte f of every exit, where the model has it in the list l
   exits-back : (f : ℕ) → f < 3 → (l : List ℕ) → length l ≡ 1024
-      → ((j : ℕ) → getD (exitBytes (exitNo (m .targets) (m .senders) (m .types) j)) f 0 ≡ getD l j 0) → exitsFrom (modelBytes m) f ≡ l
-  unfolding exitsFrom
+      → ((j : ℕ) → getD (exitBytes (exitNo (m .targets) (m .senders) (m .types) j)) f 0 ≡ getD l j 0) → exitLine (modelBytes m) f ≡ l
+  unfolding exitLine
   exits-back f small l long is =
       let all = before-are 512 (omega arith) in
       line-of _ _ 512 1024 l long (omega (arith, good .exits))
@@ -289,8 +292,8 @@ module _ (b : List ℕ) (are : AreBytes b) (ok : IsModel b) where
   state-long p l = let all = ok .long in omega (arith, length-drop (435 + 34 * p) b)
 
   -- byte f of an exit that a state has is in the line; past the last there are zeros
-  line-byte : (f p x : ℕ) → p < 512 → x < exitsIn b p → getD (exitsFrom b f) (placeIn (exitsIn b) p x) 0 ≡ getD (stateIn b p) (10 + 3 * x + f) 0
-  unfolding exitsFrom
+  line-byte : (f p x : ℕ) → p < 512 → x < exitsIn b p → getD (exitLine b f) (placeIn (exitsIn b) p x) 0 ≡ getD (stateIn b p) (10 + 3 * x + f) 0
+  unfolding exitLine
   line-byte f p x l h =
       let byte : ℕ → ℕ → ℕ = λ q y. getD (stateIn b q) (10 + 3 * y + f) 0 in
       padded-at 1024 0 (lined (exitsIn b) byte 512) (placeIn (exitsIn b) p x) 0 (omega (arith, length-lined (exitsIn b) byte 512, sum-has (exitsIn b) p 512 l))
@@ -306,20 +309,20 @@ module _ (b : List ℕ) (are : AreBytes b) (ok : IsModel b) where
       let place : 10 + 3 * x + f ≡ 10 + 3 * e + j = omega arith in
       ap (λ (i : ℕ). getD d i 0) place
       ∙ sym (getD-take (24 - 3 * e) (drop (10 + 3 * e) d) j 0 (omega arith) ∙ getD-drop (10 + 3 * e) d j 0)
-      ∙ zeros-each _ (ok .states p l .blank) j (omega (arith, length-drop (10 + 3 * e) d))
+      ∙ zero-at _ (ok .states p l .blank) j
 
   -- the state at place p of the model
-  state-read : (p : ℕ) → p < 512 → stateAt (modelFrom b) p ≡ unpacked (exitsFrom b 0) (exitsFrom b 1) (exitsFrom b 2) (storedFrom b p)
+  state-read : (p : ℕ) → p < 512 → stateAt (modelFrom b) p ≡ unpacked (exitLine b 0) (exitLine b 1) (exitLine b 2) (storedFrom b p)
   unfolding modelFrom
-  state-read p l = ap (unpacked (exitsFrom b 0) (exitsFrom b 1) (exitsFrom b 2)) (table-at (storedFrom b) 512 p blankStored l)
+  state-read p l = ap (unpacked (exitLine b 0) (exitLine b 1) (exitLine b 2)) (table-at (storedFrom b) 512 p blankStored l)
 
   -- its exits
-  exit-read : (p x : ℕ) → p < 512 → x < 8 → exitAt (unpacked (exitsFrom b 0) (exitsFrom b 1) (exitsFrom b 2) (storedFrom b p)) x ≡ exitIn (stateIn b p) x
+  exit-read : (p x : ℕ) → p < 512 → x < 8 → exitAt (unpacked (exitLine b 0) (exitLine b 1) (exitLine b 2) (storedFrom b p)) x ≡ exitIn (stateIn b p) x
   unfolding storedFrom headFrom
   exit-read p x l k = unpacked-exit _ _ _ (storedFrom b p) x k ∙ go (ltb x (exitsIn b p)) refl
     where
       go : (t : Bool) → ltb x (exitsIn b p) ≡ t
-          → cond (ltb x (exitsIn b p)) (exitNo (exitsFrom b 0) (exitsFrom b 1) (exitsFrom b 2) (storedFrom b p .first + x)) blankExit ≡ exitIn (stateIn b p) x
+          → cond (ltb x (exitsIn b p)) (exitNo (exitLine b 0) (exitLine b 1) (exitLine b 2) (storedFrom b p .first + x)) blankExit ≡ exitIn (stateIn b p) x
       go true e =
           let h = ltb-true x (exitsIn b p) e in
           let kind = kind-where (getD (stateIn b p) 0 0) (exitsIn b p) (ok .states p l .kind) (omega arith) in
@@ -340,7 +343,7 @@ module _ (b : List ℕ) (are : AreBytes b) (ok : IsModel b) where
   state-same p l =
       let d = stateIn b p in
       let long = state-long p l in
-      let own = model-valid.exitsFrom (exitsFrom b 0) (exitsFrom b 1) (exitsFrom b 2) (storedFrom b p) in
+      let own = model-valid.exitsFrom (exitLine b 0) (exitLine b 1) (exitLine b 2) (storedFrom b p) in
       let head = head-same d (storedFrom b p .first) own (rest-bytes b (435 + 34 * p) are) (omega arith) in
       let exits =
       each-same _ (λ x. take 3 (drop (3 * x) (drop 10 d))) 8 (λ x k. ap exitBytes (exit-read p x l k) ∙ exit-same d x k long) ∙ pieces 3 8 (drop 10 d) in

@@ -4,12 +4,12 @@ use mathlib.Core.Path.{_≡_}
 use mathlib.Core.Logic.{_≢_}
 use mathlib.Core.Bool.{true}
 use mathlib.Core.List.{List, [], _∷_}
-use Prim.Native.Nat.{ℕ, _/_, _%_, _<_}
+use Prim.Native.Nat.{ℕ, _/_, _%_, _≤_, _<_}
 use Rattle.sets.specs.Lists.{isOneOf}
 use Rattle.engine.specs.pools.Sizes.{mostEntries}
 use Rattle.engine.specs.configs.Shares.{shareOf}
 use Rattle.engine.specs.commands.Rules.{firstNumber}
-use Rattle.exported.specs.Calls.{modelIn, loadRefusals, loadRoom, freshRefusals, freshRoom, stepRefusals, stepRoom, stepValues, runRefusals, runRoom, runLines, walkRefusals, walkRoom, shareNumber}
+use Rattle.exported.specs.Calls.{modelIn, loadRefusals, loadRoom, writeNumber, writeRoom, freshRefusals, freshRoom, stepRefusals, stepRoom, stepValues, runRefusals, runRoom, runLines, walkRefusals, walkRoom, shareNumber}
 
 -- what each call answers, for every input
 pub record EveryExportedCallAnswers : Type 0 where
@@ -17,6 +17,10 @@ pub record EveryExportedCallAnswers : Type 0 where
   pub load : (file room : List ℕ) → isOneOf (0 ∷ 1 ∷ 2 ∷ 3 ∷ 4 ∷ 5 ∷ 6 ∷ []) (firstNumber (loadRefusals file room) % 256) ≡ true
   pub loadBlock : (file room : List ℕ) → firstNumber (loadRefusals file room) / 256 < 43
   pub loadRefused : (file room : List ℕ) → firstNumber (loadRefusals file room) ≢ 0 → loadRoom file room ≡ room
+  -- the refusal, or 256 times the length, which is at most that of 43 blocks
+  pub write : (model room : List ℕ) → isOneOf (0 ∷ 8 ∷ 6 ∷ []) (writeNumber model room % 256) ≡ true
+  pub writeLength : (model room : List ℕ) → writeNumber model room / 256 ≤ 22016
+  pub writeRefused : (model room : List ℕ) → writeNumber model room % 256 ≢ 0 → (writeNumber model room / 256 ≡ 0) × (writeRoom model room ≡ room)
   pub fresh : (file config : List ℕ) → isOneOf (0 ∷ 8 ∷ 6 ∷ []) (firstNumber (freshRefusals file config)) ≡ true
   pub freshRefused : (file config : List ℕ) → firstNumber (freshRefusals file config) ≢ 0 → freshRoom file config ≡ config
   pub step : (file config command values : List ℕ)

@@ -173,8 +173,8 @@ unfoldable pub storedFrom : List ℕ → ℕ → Stored
 storedFrom b p = headFrom (stateIn b p) (cond (eqb (getD (stateIn b p) 0 0) 0) 0 (sumBelow (exitsIn b) p))
 
 -- byte f of every exit, in the order of their states
-unfoldable pub exitsFrom : List ℕ → ℕ → List ℕ
-exitsFrom b f = padded mostExitsInAll 0 (lined (exitsIn b) (λ p x. getD (stateIn b p) (10 + 3 * x + f) 0) statePlaces)
+unfoldable pub exitLine : List ℕ → ℕ → List ℕ
+exitLine b f = padded mostExitsInAll 0 (lined (exitsIn b) (λ p x. getD (stateIn b p) (10 + 3 * x + f) 0) statePlaces)
 
 unfoldable pub modelFrom : List ℕ → Model
 modelFrom b =
@@ -183,9 +183,9 @@ modelFrom b =
       start = shortOf (drop 1 b);
       subjects = table (λ s. ownFrom (drop (3 + 27 * s) b)) mostSubjects;
       states = table (storedFrom b) statePlaces;
-      targets = exitsFrom b 0;
-      senders = exitsFrom b 1;
-      types = exitsFrom b 2;
+      targets = exitLine b 0;
+      senders = exitLine b 1;
+      types = exitLine b 2;
     }
 
 -- the bytes of a state: at most 8 exits, none where it has no kind, and nothing but zeros behind its own

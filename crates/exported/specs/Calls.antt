@@ -8,6 +8,7 @@ use lib.Dec.{eqb, ltb}
 use lib.ListN.{getD, length}
 use Rattle.sets.specs.Below.{table}
 use Rattle.blocks.specs.Verdicts as verdicts
+use Rattle.model.specs.File.{fileOf}
 use Rattle.model.specs.Loading.{loaded}
 use Rattle.model.specs.Valid.{valid}
 use Rattle.model.specs.declared.Model.{Model}
@@ -25,7 +26,7 @@ use Rattle.engine.specs.commands.Rules.{rules, firstNumber}
 use Rattle.engine.specs.Steps.{codedStep}
 use Rattle.engine.specs.Tapes.{commands, configAfter, ran, written}
 use Rattle.sets.specs.Stores.{onto}
-use Rattle.exported.specs.Bytes.{shortBytes, configSize, configBytes, configFrom, isConfig, modelSize, modelBytes}
+use Rattle.exported.specs.Bytes.{shortBytes, configSize, configBytes, configFrom, isConfig, modelSize, modelBytes, modelFrom, isModel}
 
 -- a buffer after a call: as it was where a refusal holds
 unfoldable pub unlessRefused : List (Bool × ℕ) → List ℕ → List ℕ → List ℕ
@@ -51,6 +52,21 @@ loadRefusals file room = (not (eqb (loaderNumber file) 0), loaderNumber file) �
 
 abbrev pub loadRoom : List ℕ → List ℕ → List ℕ
 loadRoom file room = unlessRefused (loadRefusals file room) room (onto (modelBytes (modelIn file)) room)
+
+-- ---- write
+
+-- 8: no model's bytes, or a model that is not valid; 6: no room for its file
+abbrev pub writeRefusals : List ℕ → List ℕ → List (Bool × ℕ)
+writeRefusals model room =
+    (not (isModel model), 8) ∷ (not (valid (modelFrom model)), 8) ∷ (ltb (length room) (length (fileOf (modelFrom model))), 6) ∷ []
+
+-- the refusal; where there is none, 256 times the length of the file
+abbrev pub writeNumber : List ℕ → List ℕ → ℕ
+writeNumber model room =
+    cond (eqb (firstNumber (writeRefusals model room)) 0) (256 * length (fileOf (modelFrom model))) (firstNumber (writeRefusals model room))
+
+abbrev pub writeRoom : List ℕ → List ℕ → List ℕ
+writeRoom model room = unlessRefused (writeRefusals model room) room (onto (fileOf (modelFrom model)) room)
 
 -- ---- fresh start
 

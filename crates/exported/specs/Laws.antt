@@ -2,14 +2,18 @@
 use mathlib.Core.Path.{_≡_}
 use mathlib.Core.Bool.{true}
 use mathlib.Core.List.{List}
-use Prim.Native.Nat.{ℕ}
-use lib.ListN.{take}
+use Prim.Native.Nat.{ℕ, _*_, _≤_}
+use lib.ListN.{length, take}
+use Rattle.sets.specs.Stores.{onto}
+use Rattle.blocks.specs.declared.Verdict.the-variants.{Good}
+use Rattle.model.specs.Loading.{loaded}
 use Rattle.model.specs.Valid as model-valid
 use Rattle.model.specs.declared.Model.{Model}
 use Rattle.model_promises.specs.Loads.{AreBytes}
 use Rattle.engine.specs.configs.Subjects.{Held}
 use Rattle.engine.specs.declared.Config.{Config}
 use Rattle.exported.specs.Bytes.{configSize, configBytes, configFrom, isConfig, modelSize, modelBytes, modelFrom, isModel}
+use Rattle.exported.specs.Calls.{modelIn, writeNumber, writeRoom}
 
 -- every configuration in the machine is `Held`: arrays of their length and masks of their width
 pub record WrittenIsRead : Type 0 where
@@ -28,3 +32,9 @@ pub record ModelWrittenIsRead : Type 0 where
   pub back : (m : Model) → model-valid.Held m → model-valid.valid m ≡ true → modelFrom (modelBytes m) ≡ m
   -- the bytes of a model are written as they were read
   pub same : (b : List ℕ) → AreBytes b → isModel b ≡ true → modelBytes (modelFrom b) ≡ take modelSize b
+
+-- a file of bytes that loads, written from the bytes of its model, is the same file
+abbrev pub FileWrittenBack : Type 0
+FileWrittenBack =
+    (file room : List ℕ) → AreBytes file → loaded file .verdict ≡ Good → length file ≤ length room
+    → (writeNumber (modelBytes (modelIn file)) room ≡ 256 * length file) × (writeRoom (modelBytes (modelIn file)) room ≡ onto file room)

@@ -1,4 +1,4 @@
-// The engine for programs in other languages: a model as its file, a configuration as 2,992 bytes, numbers low byte first.
+// The engine for programs in other languages: a model as its file or its 17,843 bytes, a configuration as 2,992 bytes, numbers low byte first.
 // Nothing is assumed of the bytes. A call that is refused changes no byte of any buffer.
 ghost use mathlib.Core.Path.{_≡_};
 ghost use mathlib.Core.Bool.{not};
@@ -8,7 +8,7 @@ ghost use Rattle.engine.specs.pools.Sizes.{mostEntries};
 ghost use Rattle.engine.specs.configs.Shares.{shareOf};
 ghost use Rattle.engine.specs.commands.Rules.{firstNumber};
 ghost use Rattle.engine.specs.Tapes.{commands, configAfter};
-ghost use Rattle.exported.specs.Calls.{modelIn, loadRefusals, loadRoom, freshRefusals, freshRoom, stepRefusals, stepRoom, stepValues, runRefusals, runRoom, runLines, walkRefusals, walkRoom, shareNumber};
+ghost use Rattle.exported.specs.Calls.{modelIn, loadRefusals, loadRoom, writeNumber, writeRoom, freshRefusals, freshRoom, stepRefusals, stepRoom, stepValues, runRefusals, runRoom, runLines, walkRefusals, walkRoom, shareNumber};
 
 mod config_bytes;
 mod model_bytes;
@@ -18,6 +18,7 @@ mod numbers;
 use engine::Config;
 use engine::Share;
 use model::Model;
+use model::Written;
 
 // Loads a file: the refusal and 256 times the block. The model goes to the buffer.
 #[no_mangle]
@@ -37,6 +38,24 @@ pub extern "C" fn zs_load(file: &[u8], room: &mut [u8]) -> u16
     let m = loaded.model;
     model_bytes::put_model(m, room);
     0
+}
+
+// Writes a model that comes as its bytes: the refusal, or 256 times the length of its file. The file goes to the buffer.
+#[no_mangle]
+pub extern "C" fn zs_write(model: &[u8], room: &mut [u8]) -> u32
+    ensures result { λ r. ⌜ r ≡ writeNumber (now (model .entry)) (now (room .entry)) ⌝ }
+    ensures room { λ _. ⌜ now (room .exit) ≡ writeRoom (now (model .entry)) (now (room .entry)) ⌝ }
+{
+    if !model_from::is_model(model) {
+        return 8;
+    }
+    let m = model_from::model_from(model);
+    let written = model::write(m, room);
+    match written {
+        Written::Bytes(length) => 256 * (length as u32),
+        Written::NotValid => 8,
+        Written::TooShort => 6,
+    }
 }
 
 // The fresh start: the refusal. The configuration goes to the buffer.

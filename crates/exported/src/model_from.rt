@@ -7,7 +7,7 @@ ghost use lib.ListN.{getD, take, drop};
 ghost use Rattle.model.specs.Sizes.{mostSubjects, statePlaces, mostExitsInAll};
 ghost use Rattle.sets.specs.Below.{allBelow, sumBelow, table};
 ghost use Rattle.sets.specs.Stores.{stored};
-ghost use Rattle.exported.specs.Bytes.{rowFrom, ownFrom, stateIn, exitsIn, headFrom, storedFrom, exitsFrom, modelFrom, isState, isModel};
+ghost use Rattle.exported.specs.Bytes.{rowFrom, ownFrom, stateIn, exitsIn, headFrom, storedFrom, exitLine, modelFrom, isState, isModel};
 use super::model_bytes::MODEL;
 use super::numbers;
 use model::MOST_EXITS;
@@ -186,7 +186,7 @@ fn put_exits(line: &mut [u8; MOST_EXITS_IN_ALL], place: usize, b: &[u8], f: usiz
 // Byte f of every exit, in the order of their states.
 fn exits_from(b: &[u8], f: usize) -> [u8; MOST_EXITS_IN_ALL]
     requires { ⌜ (sumBelow (exitsIn (now b)) statePlaces ≤ mostExitsInAll) × (f ≤ 2) ⌝ }
-    ensures { λ r. ⌜ r ≡ exitsFrom (now (b .entry)) f ⌝ }
+    ensures { λ r. ⌜ r ≡ exitLine (now (b .entry)) f ⌝ }
 {
     let mut line = [0u8; MOST_EXITS_IN_ALL];
     let mut place: usize = 0;

@@ -1,6 +1,6 @@
 -- The file of a valid model: how long it is, and that the records of all kinds, written one after the other, are it.
 use mathlib.Core.Path.{_≡_, refl, sym, ap, subst, _∙_}
-use mathlib.Core.Bool.{true, false, cond}
+use mathlib.Core.Bool.{true, false}
 use mathlib.Core.List.{List, []}
 use Prim.Native.Nat.{ℕ, suc, _+_, _*_, _≤_, _<_}
 use native.Mathlib.Omega.{arith}
@@ -9,17 +9,19 @@ use lib.Dec.{ltb}
 use lib.ListN.{length}
 use Rattle.sets.specs.Below.{sumBelow}
 use Rattle.sets.proofs.Below.{sum-bound}
+use Rattle.sets.proofs.Tests.{choose}
 use Rattle.sets.specs.Stores.{eachOf, onto, stored}
 use Rattle.sets.proofs.Stores.{stored-none, stored-more, stored-onto}
 use Rattle.model.specs.File.{recordsOf, blocksFor, startOf, fileOf}
 use Rattle.model.specs.Records.{withExits}
 use Rattle.model.specs.Valid.{subjectAt, valid}
-use Rattle.model.specs.Writing.{refusalOf, writtenAs, bufferOf}
+use Rattle.model.specs.Writing.{writtenAs, bufferOf}
 use Rattle.model.specs.inner.Lines.{kindBlocks}
 use Rattle.model.specs.declared.Model.{Model}
+use Rattle.model.specs.declared.Written.{Written}
 use Rattle.model.specs.declared.Written.the-variants.{Bytes, NotValid, TooShort}
-use Rattle.model.proofs.Facts.{GoodModel}
-use Rattle.model.proofs.Lines.{length-headers, length-states, length-exits, length-limits, all-long}
+use Rattle.model.proofs.Facts.{GoodModel, model-good}
+use Rattle.model.proofs.Lines.{length-states, length-exits, length-limits, all-long, fits}
 use Rattle.model.proofs.Places.{Twelve, made, kind-more, length-made, file-each, length-file, start-more}
 use Rattle.model.proofs.KindLaws.{header-start, header-count, exitsKept}
 
@@ -100,3 +102,24 @@ pub whole : (m : Model) (old : List ℕ) → valid m ≡ true → length (fileOf
     → (Bytes (length (fileOf m)) ≡ writtenAs m (length old)) × (onto (fileOf m) old ≡ bufferOf m old)
 unfolding writtenAs bufferOf
 whole m old e h = (rw (e, le-ltb (length old) (length (fileOf m)) h), rw (e, le-ltb (length old) (length (fileOf m)) h))
+
+-- a file has at most 43 blocks
+pub few-bytes : (m : Model) (room n : ℕ) → writtenAs m room ≡ Bytes n → n ≤ 22016
+unfolding writtenAs
+few-bytes m room n = choose P (valid m) (λ e. choose P (ltb room (length (fileOf m))) (λ _. no-bytes TooShort 0 refl) (λ _ h. fit e h)) (λ _. no-bytes NotValid 1 refl)
+  where
+    P : Written → Type 0
+    P w = w ≡ Bytes n → n ≤ 22016
+
+    which : Written → ℕ
+    which (Bytes k) = 0
+    which TooShort = 1
+    which NotValid = 2
+
+    no-bytes : (w : Written) (k : ℕ) → which w ≡ suc k → P w
+    no-bytes w k e h = absurd (omega (arith, e, ap which h))
+
+    fit : valid m ≡ true → P (Bytes (length (fileOf m)))
+    fit e h =
+        let same : length (fileOf m) ≡ n = cc in
+        omega (arith, file-length m, fits m (model-good m e))

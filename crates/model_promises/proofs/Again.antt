@@ -27,14 +27,13 @@ use Rattle.model.specs.declared.Subject.{Subject}
 use Rattle.model.proofs.DecodedLaws.{states-at}
 use Rattle.model.proofs.Facts.{GoodModel, statesOf, rowsOf, exitsOf, has-state, exit-is}
 use Rattle.model.proofs.Lines.{length-headers, length-states, length-exits, length-limits}
-use Rattle.sets.proofs.Pieces.{count-is}
+use Rattle.sets.proofs.Pieces.{zero-at, count-is}
 use Rattle.model_promises.specs.Loads.{AreBytes, Passes1, Passes3, Passes4}
 use Rattle.model_promises.proofs.Back.{all-blank}
 use Rattle.model_promises.proofs.Keys.{key-apart}
 use Rattle.model_promises.proofs.Ordered.{less-sum}
 use Rattle.model_promises.proofs.Shown.{Placed, in-there, rows-are, row-place, row-here, row-both, state-place, state-key, exit-place, exit-key, exit-both, states-few, stored-at, stored-exits, before-is}
 use Rattle.model_promises.proofs.Stacked.{first-kind, later-kind, parts, some-block, subjects-header, header-names, header-rest, subjects-within, stands, here, record-at, twelve}
-use Rattle.model_promises.proofs.Told.{zero-at}
 
 -- ---- a record is made again from what it says
 

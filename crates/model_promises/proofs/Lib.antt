@@ -13,3 +13,4 @@ pub mod Five
 pub mod SameFile
 pub mod Again
 pub mod OneFile
+pub mod Writes

@@ -1,5 +1,5 @@
 -- Every public call has one result: two results that its contract allows are equal. `Learnt` is the contract's ensures, as a caller has it.
-use mathlib.Core.Path.{sym, _∙_}
+use mathlib.Core.Path.{refl, sym, _∙_}
 use denote.Ref.{now}
 use Rattle.sets.proofs.both.Reads as both-call
 use Rattle.sets.proofs.both.Kinds as both-call-kinds
@@ -53,7 +53,13 @@ use Rattle.blocks.proofs.record.Reads as record-call
 use Rattle.blocks.proofs.record.Kinds as record-call-kinds
 use Rattle.blocks.proofs.record_from.Reads as record-from-call
 use Rattle.blocks.proofs.record_from.Kinds as record-from-call-kinds
-use Rattle.model_promises.specs.One.{OneResult, OnePart}
+use Rattle.blocks.proofs.put.Reads as put-call
+use Rattle.blocks.proofs.put.Kinds as put-call-kinds
+use Rattle.blocks.proofs.seal.Reads as seal-call
+use Rattle.blocks.proofs.seal.Kinds as seal-call-kinds
+use Rattle.model.proofs.write.Reads as write-call
+use Rattle.model.proofs.write.Kinds as write-call-kinds
+use Rattle.model_promises.specs.One.{OneResult, OnePart, OneStore}
 
 -- ---- tests, bytes and masks
 
@@ -140,3 +146,14 @@ record-one κs a x y e p q = p ∙ sym q
 
 pub record-from-one : OnePart 1 record-from-call-kinds.ps record-from-call-kinds.r (λ κs x. now x) record-from-call.Learnt
 record-from-one κs a x y e p q = p ∙ sym q
+
+-- ---- a buffer that is lent: the result and what then stands in the buffer are fixed
+
+pub put-one : OneStore 1 put-call-kinds.ps put-call-kinds.r (λ κs e. now (e .0)) put-call.Learnt
+put-one κs a x y e f p q = (refl, p ∙ sym q)
+
+pub seal-one : OneStore 1 seal-call-kinds.ps seal-call-kinds.r (λ κs e. now (e .0)) seal-call.Learnt
+seal-one κs a x y e f p q = (refl, p ∙ sym q)
+
+pub write-one : OneStore 1 write-call-kinds.ps write-call-kinds.r (λ κs e. now (e .1 .0)) write-call.Learnt
+write-one κs a x y e f p q = (p .0 ∙ sym (q .0), p .1 ∙ sym (q .1))

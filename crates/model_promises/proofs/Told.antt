@@ -10,20 +10,11 @@ use lib.ListN.{length, getD, take, drop, length-take, List·getD-eq-default}
 use lib.Seq.{getD-take, getD-drop, ext-getD}
 use Rattle.sets.specs.Tests.{within, allZero}
 use Rattle.sets.proofs.Tests.{Within, within-is, and-both}
-use Rattle.sets.proofs.Below.{all-each}
+use Rattle.sets.proofs.Pieces.{zero-at}
 use Rattle.blocks.specs.Blocks.{numberIn, kindIn, usedIn, bodyIn, checkIn, recordIn, checkRight, roomRight}
 use Rattle.blocks.specs.Checks.{checkOf}
 use Rattle.blocks.proofs.BlockLaws.{record-here}
 use Rattle.model_promises.proofs.Keys.{key-apart}
-
--- where every byte is zero, any is
-pub zero-at : (s : List ℕ) → allZero s ≡ true → (i : ℕ) → getD s i 0 ≡ 0
-unfolding allZero
-zero-at s h i = go (ltb i (length s)) refl
-  where
-    go : (b : Bool) → ltb i (length s) ≡ b → getD s i 0 ≡ 0
-    go true e = eqb-true (getD s i 0) 0 (all-each (λ k. eqb (getD s k 0) 0) (length s) h i (ltb-true i (length s) e))
-    go false e = List·getD-eq-default s 0 (ltb-false i (length s) e)
 
 -- ---- what stages 2 and 3 say of a block alone
 

@@ -14,3 +14,9 @@ OneResult n ps r Q = (κs : Lfts n) (a : Dens κs ps) (x y : resT r κs .Denot) 
 abbrev pub OnePart : (n : ℕ) (ps : List (PK n)) (r : RK n) → ((κs : Lfts n) → resT r κs .Denot → List ℕ) → Out n ps r → Type 0
 OnePart n ps r bytes Q =
     (κs : Lfts n) (a : Dens κs ps) (x y : resT r κs .Denot) (e : AtExit (endedOf n ps r) κs) → Q κs a x e → Q κs a y e → bytes κs x ≡ bytes κs y
+
+-- one that allows one result and one content of a lent buffer at the most, where the caller has the buffer's bytes back at the end
+abbrev pub OneStore : (n : ℕ) (ps : List (PK n)) (r : RK n) → ((κs : Lfts n) → AtExit (endedOf n ps r) κs → List ℕ) → Out n ps r → Type 0
+OneStore n ps r bytes Q =
+    (κs : Lfts n) (a : Dens κs ps) (x y : resT r κs .Denot) (e f : AtExit (endedOf n ps r) κs) → Q κs a x e → Q κs a y f
+    → (x ≡ y) × (bytes κs e ≡ bytes κs f)

@@ -1,13 +1,17 @@
 -- What is promised of model files, each statement by its name.
 use mathlib.Core.Path.{_≡_}
-use mathlib.Core.Bool.{true}
-use mathlib.Core.Logic.{_↔_}
+use mathlib.Core.Bool.{true, false}
+use mathlib.Core.Logic.{_↔_, _≢_}
 use mathlib.Core.List.{List}
-use Prim.Native.Nat.{ℕ}
+use Prim.Native.Nat.{ℕ, _≤_, _<_}
+use lib.ListN.{length, getD, take}
+use Rattle.sets.specs.Stores.{onto}
 use Rattle.model.specs.File.{fileOf}
 use Rattle.model.specs.Loading.{loaded, acrossRight, emptyModel}
 use Rattle.model.specs.Valid.{valid, Held}
+use Rattle.model.specs.Writing.{refusalOf, lengthOf, writtenAs, bufferOf}
 use Rattle.model.specs.declared.Model.{Model}
+use Rattle.model.specs.declared.Written.the-variants.{Bytes}
 use Rattle.blocks.specs.declared.Verdict.{Verdict}
 use Rattle.blocks.specs.declared.Verdict.the-variants.{Good}
 use Rattle.model_promises.specs.Across.{rowFive}
@@ -57,3 +61,26 @@ OneFile = (file : List ℕ) (m : Model) → AreBytes file → Held m → LoadsTo
 -- model P loads from its own file
 abbrev pub PLoads : Type 0
 PLoads = AreBytes (fileOf modelP) × LoadsTo (fileOf modelP) modelP
+
+-- ---- writing
+
+-- the answer and the buffer after the call that writes a model, for every model and every buffer
+pub record WritesExactly : Type 0 where
+  -- 8 exactly where the model is not valid, whatever the buffer
+  pub not-valid : (m : Model) (room : ℕ) → (refusalOf (writtenAs m room) ≡ 8) ↔ (valid m ≡ false)
+  -- 6 exactly where it is valid and the buffer is shorter than its file
+  pub too-short : (m : Model) (room : ℕ) → (refusalOf (writtenAs m room) ≡ 6) ↔ ((valid m ≡ true) × (room < length (fileOf m)))
+  -- accepted exactly where it is valid and its file has room: a buffer of the file's length is enough
+  pub accepted : (m : Model) (room : ℕ) → (refusalOf (writtenAs m room) ≡ 0) ↔ ((valid m ≡ true) × (length (fileOf m) ≤ room))
+  -- refused: the length is 0, and no byte of the buffer changes
+  pub refused : (m : Model) (old : List ℕ) → refusalOf (writtenAs m (length old)) ≢ 0 → (lengthOf (writtenAs m (length old)) ≡ 0) × (bufferOf m old ≡ old)
+  -- accepted: the buffer begins with the file
+  pub begins : (m : Model) (old : List ℕ) → refusalOf (writtenAs m (length old)) ≡ 0 → take (lengthOf (writtenAs m (length old))) (bufferOf m old) ≡ fileOf m
+  -- every byte behind the file stays as it was
+  pub behind : (m : Model) (old : List ℕ) (i : ℕ) → lengthOf (writtenAs m (length old)) ≤ i → getD (bufferOf m old) i 0 ≡ getD old i 0
+  -- what is written loads to the same model
+  pub loads : (m : Model) (old : List ℕ) → Held m → refusalOf (writtenAs m (length old)) ≡ 0
+      → LoadsTo (take (lengthOf (writtenAs m (length old))) (bufferOf m old)) m
+  -- a file of bytes that loads, when written, gives the same bytes
+  pub back : (file : List ℕ) (m : Model) (old : List ℕ) → AreBytes file → LoadsTo file m → length file ≤ length old
+      → (writtenAs m (length old) ≡ Bytes (length file)) × (bufferOf m old ≡ onto file old)

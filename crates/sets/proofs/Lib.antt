@@ -7,3 +7,4 @@ pub mod Groups
 pub mod Bytes
 pub mod Stores
 pub mod Pieces
+pub mod LineStores

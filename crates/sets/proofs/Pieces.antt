@@ -6,13 +6,13 @@ use Prim.Native.Nat.{ℕ, zero, suc, _+_, _-_, _*_, _≤_, _<_, min}
 use native.Mathlib.Nat.{not-suc-le-zero, zero-mul}
 use native.Mathlib.Numerals.{add-one}
 use native.Mathlib.Omega.{arith}
-use borrow.Author.Tests.{ltb-true, ltb-false, lt-ltb, le-ltb, leb-true, leb-false, eq-eqb}
+use borrow.Author.Tests.{ltb-true, ltb-false, lt-ltb, le-ltb, leb-true, leb-false, eqb-true, eq-eqb}
 use lib.Dec.{ltb, leb}
-use lib.ListN.{length, getD, take, drop, replicate, length-append, length-take, length-drop, length-replicate, getD-replicate}
+use lib.ListN.{length, getD, take, drop, replicate, length-append, length-take, length-drop, length-replicate, getD-replicate, List·getD-eq-default}
 use lib.Seq.{take-at, drop-at, drop-drop, getD-take, getD-drop}
 use Rattle.sets.specs.Below.{sumBelow, countBelow, tableFrom, table}
 use Rattle.sets.specs.Tests.{allZero}
-use Rattle.sets.proofs.Below.{all-by, table-more}
+use Rattle.sets.proofs.Below.{all-each, all-by, table-more}
 use Rattle.sets.proofs.Bytes.{Bytes, none, append-bytes}
 use Rattle.sets.specs.Stores.{joined, eachOf}
 
@@ -82,10 +82,22 @@ unfolding joined
 joined-bytes [] b = none
 joined-bytes (p ∷ ps) b = append-bytes (b 0 (omega arith)) (joined-bytes ps (λ i l. b (suc i) (omega arith)))
 
--- a run of zeros is all zero
-pub zeros : (n : ℕ) → allZero (replicate n 0) ≡ true
+-- every byte is zero where each is, and the other way round
+pub zeros-by : (s : List ℕ) → ((i : ℕ) → i < length s → getD s i 0 ≡ 0) → allZero s ≡ true
 unfolding allZero
-zeros n = all-by _ _ (λ i l. eq-eqb _ _ (getD-replicate n i 0 0 (omega (arith, length-replicate {A = ℕ} n 0))))
+zeros-by s h = all-by _ (length s) (λ i l. eq-eqb _ _ (h i l))
+
+pub zero-at : (s : List ℕ) → allZero s ≡ true → (i : ℕ) → getD s i 0 ≡ 0
+unfolding allZero
+zero-at s h i = go (ltb i (length s)) refl
+  where
+    go : (b : Bool) → ltb i (length s) ≡ b → getD s i 0 ≡ 0
+    go true e = eqb-true (getD s i 0) 0 (all-each _ (length s) h i (ltb-true i (length s) e))
+    go false e = List·getD-eq-default s 0 (ltb-false i (length s) e)
+
+-- a run of zeros
+pub zeros : (n : ℕ) → allZero (replicate n 0) ≡ true
+zeros n = zeros-by (replicate n 0) (λ i l. getD-replicate n i 0 0 (omega (arith, length-replicate {A = ℕ} n 0)))
 
 -- ---- sums and counts
 

@@ -5,9 +5,11 @@ use Prim.Native.Nat.{ℕ, zero, suc, _+_, _*_, _≤_, _<_}
 use native.Mathlib.Nat.{add-zero, add-suc, suc-add}
 use native.Mathlib.Numerals.{add-one}
 use native.Mathlib.Omega.{arith}
-use lib.ListN.{length, getD, take, drop, set, length-append, length-set, length-drop, take-append-drop}
-use lib.Seq.{sets, length-sets, sets-eq, drop-set-lt, take-set-le, drop-at, take-at, take-all, take-add, take-suc, length-take-le}
+use lib.ListN.{length, take, drop, set, length-append, length-set, length-drop, take-append-drop}
+use lib.Seq.{sets, length-sets, sets-eq, drop-set-lt, take-set-le, drop-at, take-at, take-add, length-take-le}
+use Rattle.sets.specs.Below.{tableFrom, table}
 use Rattle.sets.specs.Stores.{eachOf, onto, stored}
+use Rattle.sets.proofs.Below.{length-table, table-more}
 
 -- ---- one store, and then others
 
@@ -127,20 +129,22 @@ stored-over old xs ys p q l h room =
     ∙ ap (λ (t : List ℕ). take q old ++ ys ++ t) (behind-stored xs old p (q + length ys) h)
     ∙ sym (sets-eq ys old q room)
 
--- ---- a list byte by byte
+-- ---- byte by byte
 
--- a turn of a loop that stores a list
-pub store-turn : (old now xs : List ℕ) (p i x d : ℕ) → i < length xs → now ≡ stored old p (take i xs) → x ≡ getD xs i d
-    → set now (p + i) x ≡ stored old p (take (i + 1) xs)
-unfolding stored
-store-turn old now xs p i x d l e f =
-    let k : p + i ≡ p + length (take i xs) = ap (λ (j : ℕ). p + j) (sym (length-take-le i xs (omega arith))) in
-    stored-more old now (set now (p + i) x) (take i xs) (x ∷ []) p (p + i) e refl k
-    ∙ ap (stored old p) (ap (λ (y : ℕ). take i xs ++ (y ∷ [])) f ∙ sym (take-suc xs i d l) ∙ ap (λ (j : ℕ). take j xs) (sym (add-one i)))
+-- a loop that stores f 0, f 1 and so on, from place p on: its start, a turn and its end
+module _ (f : ℕ → ℕ) (old : List ℕ) (p : ℕ) where
+  pub bytes-start : old ≡ stored old p (table f 0)
+  unfolding tableFrom
+  bytes-start = stored-none old p
 
--- and its end
-pub store-end : (old now xs : List ℕ) (p i : ℕ) → length xs ≤ i → now ≡ stored old p (take i xs) → now ≡ stored old p xs
-store-end old now xs p i l e = e ∙ ap (stored old p) (take-all i xs l)
+  pub bytes-turn : (now : List ℕ) (i x : ℕ) → now ≡ stored old p (table f i) → x ≡ f i → set now (p + i) x ≡ stored old p (table f (i + 1))
+  unfolding stored
+  bytes-turn now i x e g =
+      stored-more old now (set now (p + i) x) (table f i) (x ∷ []) p (p + i) e refl (ap (λ (k : ℕ). p + k) (sym (length-table f i)))
+      ∙ ap (stored old p) (ap (λ (y : ℕ). table f i ++ (y ∷ [])) g ∙ sym (table-more f i))
+
+  pub bytes-end : (now : List ℕ) (i n : ℕ) → i ≤ n → n ≤ i → now ≡ stored old p (table f i) → now ≡ stored old p (table f n)
+  bytes-end now i n l g e = let k : i ≡ n = omega arith in e ∙ ap (λ (j : ℕ). stored old p (table f j)) k
 
 -- ---- the same number of bytes for each
 

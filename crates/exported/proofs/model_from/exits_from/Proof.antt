@@ -9,8 +9,9 @@ use Rattle.sets.specs.Below.{sumBelow}
 use Rattle.sets.specs.Groups.{lined}
 use Rattle.sets.specs.Lists.{padded}
 use Rattle.sets.proofs.Below.{sum-start, sum-turn, sum-has}
-use Rattle.exported.specs.Bytes.{stateIn, exitsIn, exitsFrom}
-use Rattle.exported.proofs.ModelLaws.{line-start, line-turn, line-end, room-for}
+use Rattle.exported.specs.Bytes.{stateIn, exitsIn, exitLine}
+use Rattle.sets.proofs.LineStores.{line-start, line-turn, line-end}
+use Rattle.exported.proofs.ModelLaws.{room-for}
 use Rattle.exported.proofs.model_from.exits_from.Statement.{statement}
 use Rattle.exported.proofs.model_from.exits_from.Tie as tie
 
@@ -50,7 +51,7 @@ loop-again c =
     )
 
 returns : tie.Need-returns Inv-loop μ-loop
-unfolding exitsFrom
+unfolding exitLine
 returns c =
     let inv = c .before .loop .inv in
     line-end _ _ _ _ _ 512 (inv .0) (c .loop-test .left) (inv .2)

@@ -4,7 +4,7 @@ use borrow.Author.Needs.{needs}
 use lib.ListN.{getD}
 use Rattle.sets.specs.Below.{table}
 use Rattle.sets.specs.Stores.{stored}
-use Rattle.exported.proofs.ModelLaws.{bytes-start, bytes-turn, bytes-end}
+use Rattle.sets.proofs.Stores.{bytes-start, bytes-turn, bytes-end}
 use Rattle.exported.proofs.model_from.put_exits.Statement.{statement}
 use Rattle.exported.proofs.model_from.put_exits.Tie as tie
 

@@ -25,6 +25,7 @@ use Rattle.exported.specs.Calls.{modelIn, eightOf, loaderNumber, loadRef
 use Rattle.exported.specs.Answers.{EveryExportedCallAnswers}
 use Rattle.exported.proofs.CallLaws.{buffer-kept}
 use Rattle.exported.proofs.LoadLaws.{load-place}
+use Rattle.exported.proofs.WriteLaws.{write-answer, write-few, write-refused}
 
 -- every verdict has a number from 0 to 5
 verdict-number : (v : Verdict) → verdicts.refusalOf v < 6
@@ -94,6 +95,9 @@ every-exported-call-answers =
       load = λ file room. below-7 _ (load-number file room .refusal);
       loadBlock = λ file room. load-number file room .block;
       loadRefused = λ file room h. sym (buffer-kept _ _ room _ refl h);
+      write = write-answer;
+      writeLength = write-few;
+      writeRefused = write-refused;
       fresh = fresh-number;
       freshRefused = λ file config h. sym (buffer-kept _ _ config _ refl h);
       step = step-number;

@@ -1,4 +1,4 @@
--- What was written of a model is read back, and what is read is written the same.
+-- What was written of a model is read back, what is read is written the same, and a file that loads is written back.
 use mathlib.Core.Path.{_≡_, refl, sym, ap, _∙_}
 use mathlib.Core.Logic.{_⊎_, inl, inr, ⊎-elim}
 use mathlib.Core.Bool.{Bool, true, false, _||_, not, cond}
@@ -15,7 +15,9 @@ use Rattle.sets.specs.Stores.{eachOf}
 use Rattle.sets.proofs.Below.{table-at, table-of, part-table, sum-same, sum-has}
 use Rattle.sets.proofs.Groups.{in-places-at, length-lined, lined-at}
 use Rattle.sets.proofs.Lists.{padded-at}
-use Rattle.sets.proofs.Stores.{length-each}
+use Rattle.sets.proofs.LineStores.{line-of}
+use Rattle.sets.proofs.Pieces.{zeros-by, zero-at}
+use Rattle.sets.proofs.Stores.{length-each, each-same}
 use Rattle.sets.proofs.Tests.{and-both, within-is}
 use Rattle.model.specs.Records.{blankExit, blankRow, blankStored, withExits}
 use Rattle.model.specs.Rules.{shapeOf, stateFits}
@@ -27,14 +29,16 @@ use Rattle.model.specs.declared.State.{State}
 use Rattle.model.specs.declared.Stored.{Stored}
 use Rattle.model.specs.declared.Subject.{Subject}
 use Rattle.model.proofs.Facts.{Empty, GoodModel, model-good, exitsOf, exit-is}
-use Rattle.model_promises.specs.Loads.{AreBytes}
+use Rattle.model.specs.Writing.{writtenAs, bufferOf}
+use Rattle.model_promises.specs.Loads.{AreBytes, LoadsTo}
+use Rattle.model_promises.proofs.Loads.{loads-valid, loads-held}
+use Rattle.model_promises.proofs.Writes.{writes-exactly}
 use Rattle.exported.specs.Bytes.{shortOf, modelSize, rowBytes, ownBytes, exitBytes, headBytes, stateBytes, modelBytes, rowFrom, ownFrom, stateIn, exitsIn, headFrom, storedFrom, exitLine, modelFrom, isModel}
-use Rattle.exported.specs.Laws.{ModelWrittenIsRead}
-use Rattle.sets.proofs.Stores.{each-same}
+use Rattle.exported.specs.Calls.{modelIn}
+use Rattle.exported.specs.Laws.{ModelWrittenIsRead, FileWrittenBack}
 use Rattle.exported.proofs.BackLaws.{short-back, drop-each, each-byte, rest-bytes, short-parts, three, pieces}
-use Rattle.sets.proofs.LineStores.{line-of}
-use Rattle.sets.proofs.Pieces.{zeros-by, zero-at}
 use Rattle.exported.proofs.ModelLaws.{IsState, IsModel, is-model, model-is}
+use Rattle.exported.proofs.WriteLaws.{numberOf, write-number, write-room}
 use Rattle.exported.proofs.ByteLaws.{length-own, length-state, length-model}
 
 -- ---- the parts of a model's bytes
@@ -384,3 +388,18 @@ model-written-is-read =
       back = λ m held ok. model-back m (model-good m ok) held;
       same = λ b are ok. model-same b are (is-model b ok);
     }
+
+-- a file that loads is written back from the bytes of its model
+pub file-written-back : FileWrittenBack
+file-written-back file room bytes h l =
+    let m = modelIn file in
+    let b = modelBytes m in
+    let loads : LoadsTo file m = λ i. record { model = m; verdict = h i } in
+    let held = loads-held file m bytes loads in
+    let ok = loads-valid file m loads in
+    let own = model-written-is-read .accepted m held ok in
+    let same = model-written-is-read .back m held ok in
+    let w = writes-exactly .back file m room bytes loads l in (
+      sym (write-number b room own) ∙ ap numberOf (ap (λ (x : Model). writtenAs x (length room)) same ∙ w .0),
+      sym (write-room b room own) ∙ ap (λ (x : Model). bufferOf x room) same ∙ w .1,
+    )

@@ -1,14 +1,19 @@
 #!/usr/bin/env python3
-"""Makes the cases of the file reader: model files, and the answer that each must get.
+"""Makes the cases of the file reader and writer: model files, and the answer that each must get.
 
     python3 tools/make_cases.py
 
 in the repository's root writes crates/cases/data/ (a file for each case, and `list` with
-the names) and crates/cases/stdout (a line `NAME REFUSAL BLOCK` for each case; 0 0: it loads).
+the names) and crates/cases/stdout: a line `NAME REFUSAL BLOCK` for each case (0 0: it loads), and a
+line for each edit of model P.
+
+Where a file loads, its line goes on with what comes of writing the model into buffers of four
+lengths, ` | REFUSAL LENGTH WORD` for each. A buffer is the first bytes of a marked array; the word
+is `kept` where the array is as it was, `same` where the file stands in it and all behind is marked.
 
 The files are built by the rules of the format alone, which docs/RULES.md has. The two numbers after
-each name are written by hand from them: nothing here reads a model file. Quoted words name the rule
-that a case is about; docs/RULES.md may say it in other words.
+each name, and the lines of the edits, are written by hand from them: nothing here reads a model
+file. Quoted words name the rule that a case is about; docs/RULES.md may say it in other words.
 """
 
 import copy
@@ -1037,8 +1042,42 @@ each_byte("exit-receive", BASE, 2, 10, (0, 1, 2, 3, 4, 5, 6, 11), "55 55 55 55 5
 each_byte("limit-first", BASE, 3, 0, (0, 1, 2, 3, 4, 11), "44 44 4. 44 44 44")
 each_byte("limit-last", BASE, 3, 4, (0, 1, 2, 3, 4, 11), "55 50 4. 44 44 44")
 
+# -- Model P with one field changed: what writing the edited model must give.
+
+case("edited-limit", 0, 0, P, limit(1, 0, ANY, limit=3))
+case("edited-target", 0, 0, P, exit_(0, 0, 0, target=2))
+
+
+# ---- Edits of model P
+
+# What stays valid is written as the file of the case above: four blocks, one for each kind of record.
+# Loaded again, it shows the new value. What does not is refused 8 in a buffer that is long enough and
+# in one of length 0: 8 comes before 6.
+EDITS = """\
+edit limit-3 | 0 2048 same | loads 0 0 3
+edit target-2 | 0 2048 same | loads 0 0 2
+edit limit-17 | 8 0 kept | 8 0 kept
+edit target-9 | 8 0 kept | 8 0 kept
+edit kind-0 | 8 0 kept | 8 0 kept
+edit subjects-3 | 8 0 kept | 8 0 kept
+edit target-behind-last | 8 0 kept | 8 0 kept
+edit first-3 | 8 0 kept | 8 0 kept
+"""
+
 
 # ---- The files
+
+def written(file):
+    """A file that loads, written back: refused 6 where the buffer is shorter, else the file again.
+
+    The buffers have no byte, one less than the file, as many, and 100 more.
+    """
+    return " | 6 0 kept | 6 0 kept" + 2 * f" | 0 {len(file)} same"
+
+
+def answer(name, refusal, block, file):
+    return f"{name} {refusal} {block}" + ("" if refusal else written(file)) + "\n"
+
 
 def main():
     crate = pathlib.Path(__file__).resolve().parent.parent / "crates" / "cases"
@@ -1053,9 +1092,8 @@ def main():
     for name, file in zip(names, files):
         if file is not None:
             (data / name).write_bytes(file)
-    answers = [f"{name} {refusal} {block}\n" for name, refusal, block, _ in CASES]
     (data / "list").write_text("".join(f"{name}\n" for name in names))
-    (crate / "stdout").write_text("".join(answers))
+    (crate / "stdout").write_text("".join(answer(*each) for each in CASES) + EDITS)
 
 
 if __name__ == "__main__":

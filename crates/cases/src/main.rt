@@ -1,36 +1,28 @@
 // Loads every model file that the file `list` names, a name to a line, and writes for each its
-// name, the refusal and the block: 0 0 where the file loads. tools/make_cases.py makes the files.
+// name, the refusal and the block: 0 0 where the file loads. A model that loads is written back
+// four times, and what came of each stands behind it. Then model P is edited, and each edit is
+// written. tools/make_cases.py makes the files.
 ghost use Prim.Native.Nat.{_≤_};
 ghost use lib.ListN.{length};
-use libc::STDOUT_FILENO;
-use model::Verdict;
 
-// Two blocks more than a model file may have: a file of 44 blocks, too, is handed over whole.
-const ROOM: usize = 45 * 512;
+mod back;
+mod edits;
+mod stored;
+mod text;
 
-// What the loader answers to the file. A missing one opens as -1, from which nothing can be read:
-// its length is 0.
-fn verdict_of(name: &[u8]) -> Verdict {
-    let mut room = [0u8; ROOM];
-    let fd = os::open_read(name);
-    let n = io::read_full(fd, &mut room);
-    libc::close(fd);
-    let loaded = model::load(&room[..n]);
-    loaded.verdict
-}
-
-fn write_line(name: &[u8], verdict: Verdict) {
-    io::write_all(STDOUT_FILENO, name);
-    io::write_all(STDOUT_FILENO, b" ");
-    io::print_decimal(STDOUT_FILENO, model::refusal(verdict) as u64);
-    io::write_all(STDOUT_FILENO, b" ");
-    io::print_decimal(STDOUT_FILENO, model::place(verdict) as u64);
-    io::write_all(STDOUT_FILENO, b"\n");
-}
-
+// A file's line: the file is loaded and, where it loads, written back.
 fn run(name: &[u8]) {
-    let verdict = verdict_of(name);
-    write_line(name, verdict);
+    let mut room = [0u8; stored::ROOM];
+    let n = stored::read(name, &mut room);
+    let loaded = model::load(&room[..n]);
+    let verdict = loaded.verdict;
+    text::write(name);
+    text::write_verdict(verdict);
+    if model::refusal(verdict) == 0 {
+        let m = loaded.model;
+        back::write_four(m, &room[..n]);
+    }
+    text::write(b"\n");
 }
 
 // Where the line that begins at `from` ends: at its line end, or with the list.
@@ -68,4 +60,5 @@ fn main() {
     let n = io::read_full(fd, &mut list);
     libc::close(fd);
     run_each(&list[..n]);
+    edits::run();
 }

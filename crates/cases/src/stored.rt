@@ -1,5 +1,4 @@
 // The stored files.
-ghost use lib.ListN.{length};
 ghost use Rattle.io.specs.Counts.{Counts};
 
 // Two blocks more than a model file may have: a file of 44 blocks, too, is handed over whole.

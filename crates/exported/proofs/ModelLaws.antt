@@ -1,24 +1,15 @@
 -- Laws of models from their bytes: the loops that store the exits of all states in one line, and what the test of the bytes tells.
-use mathlib.Core.Path.{_≡_, refl, sym, ap, _∙_}
-use mathlib.Core.Bool.{Bool, true, false, _&&_, _||_, not, cond}
-use mathlib.Core.List.{List, [], _∷_, _++_, append-assoc, append-nil}
-use Prim.Native.Nat.{ℕ, suc, _+_, _-_, _*_, _≤_, _<_}
-use native.Mathlib.Nat.{sub-zero}
-use native.Mathlib.Numerals.{add-one}
+use mathlib.Core.Path.{_≡_}
+use mathlib.Core.Bool.{true, false, _&&_, _||_, not, cond}
+use mathlib.Core.List.{List}
+use Prim.Native.Nat.{ℕ, _+_, _-_, _*_, _≤_, _<_}
 use native.Mathlib.Omega.{arith}
-use borrow.Author.Tests.{ltb-true, ltb-false, leb-true, le-leb, lt-leb, eqb-true, eq-eqb}
-use lib.Dec.{ltb, eqb}
-use lib.ListN.{length, getD, set, take, drop, replicate, length-append}
-use lib.Seq.{ext-getD}
-use Rattle.sets.specs.Below.{sumBelow, tableFrom, table}
-use Rattle.sets.specs.Groups.{placeIn, lined}
-use Rattle.sets.specs.Lists.{padded}
-use Rattle.sets.specs.Stores.{stored}
+use borrow.Author.Tests.{leb-true, le-leb, lt-leb}
+use lib.Dec.{eqb}
+use lib.ListN.{length, getD, take, drop}
+use Rattle.sets.specs.Below.{sumBelow}
 use Rattle.sets.specs.Tests.{allZero}
-use Rattle.sets.proofs.Below.{length-table, table-more, sum-has, all-each, all-by}
-use Rattle.sets.proofs.Groups.{length-lined, lined-at, spot}
-use Rattle.sets.proofs.Lists.{length-padded, padded-set, padded-at, padded-past}
-use Rattle.sets.proofs.Stores.{chained, chainedFrom, chained-stored, stored-none, stored-more}
+use Rattle.sets.proofs.Below.{sum-has, all-each, all-by}
 use Rattle.sets.proofs.Tests.{and-both, and-true}
 use Rattle.exported.specs.Bytes.{modelSize, stateIn, exitsIn, headFrom, storedFrom, isState, isModel}
 

@@ -1,17 +1,16 @@
 -- Laws of writing a model that comes as its bytes: the answer as a number and the buffer, by what `write` says.
-use mathlib.Core.Path.{_≡_, refl, sym, ap, _∙_}
-use mathlib.Core.Bool.{Bool, true, false, not, cond}
+use mathlib.Core.Path.{_≡_, refl, ap}
+use mathlib.Core.Bool.{Bool, true, false}
 use mathlib.Core.Logic.{_≢_}
 use mathlib.Core.List.{List, [], _∷_}
-use Prim.Native.Nat.{ℕ, _+_, _*_, _/_, _%_, _≤_}
+use Prim.Native.Nat.{ℕ, _*_, _/_, _%_, _≤_}
 use native.Mathlib.Omega.{arith}
-use lib.Dec.{eqb, ltb}
+use lib.Dec.{ltb}
 use lib.ListN.{length}
 use Rattle.sets.specs.Lists.{isOneOf}
 use Rattle.model.specs.File.{fileOf}
 use Rattle.model.specs.Valid.{valid}
 use Rattle.model.specs.Writing.{writtenAs, bufferOf}
-use Rattle.model.specs.declared.Model.{Model}
 use Rattle.model.specs.declared.Written.{Written}
 use Rattle.model.specs.declared.Written.the-variants.{Bytes, NotValid, TooShort}
 use Rattle.model.proofs.Facts.{model-good}
@@ -19,7 +18,7 @@ use Rattle.model.proofs.FileLaws.{file-length}
 use Rattle.model.proofs.Lines.{fits}
 use Rattle.engine.specs.commands.Rules.{firstNumber}
 use Rattle.exported.specs.Bytes.{modelFrom, isModel}
-use Rattle.exported.specs.Calls.{unlessRefused, writeRefusals, writeNumber, writeRoom}
+use Rattle.exported.specs.Calls.{unlessRefused, writeNumber, writeRoom}
 
 -- the number of an answer: the refusal, or 256 times the length
 abbrev pub numberOf : Written → ℕ

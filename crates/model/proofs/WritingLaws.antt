@@ -1,10 +1,9 @@
 -- Laws of the records of a kind as they are written: after j of them the full blocks stand, and behind them the records of the
 -- block that is not closed yet.
-use mathlib.Core.Path.{_≡_, refl, sym, ap, subst, _∙_}
-use mathlib.Core.Bool.{Bool, true, false, cond}
+use mathlib.Core.Path.{_≡_, refl, sym, ap, _∙_}
+use mathlib.Core.Bool.{Bool, true, false}
 use mathlib.Core.List.{List, [], _∷_, _++_}
-use Prim.Native.Nat.{ℕ, zero, suc, _+_, _-_, _*_, _/_, _%_, _≤_, _<_, min}
-use native.Mathlib.Numerals.{add-one}
+use Prim.Native.Nat.{ℕ, suc, _+_, _-_, _*_, _≤_, _<_}
 use native.Mathlib.Omega.{arith}
 use borrow.Author.Tests.{eqb-true, eqb-false, eq-eqb, ne-eqb}
 use lib.Dec.{eqb}
@@ -12,10 +11,9 @@ use lib.ListN.{length, getD, take, drop, length-take, length-drop}
 use lib.Seq.{take-all, take-suc, getD-drop, getD-take, length-take-le}
 use Rattle.sets.specs.Stores.{joined, eachOf, stored}
 use Rattle.sets.proofs.Stores.{length-stored, stored-none, stored-more, length-each}
-use Rattle.sets.proofs.Pieces.{part, length-part, part-at, Each, length-joined, joined-more}
-use Rattle.blocks.specs.Blocks.{blocks}
+use Rattle.sets.proofs.Pieces.{part, length-part, Each, length-joined, joined-more}
 use Rattle.blocks.specs.Made.{blockWith, withRecord, sealed}
-use Rattle.blocks.proofs.Made.{Fits, length-block}
+use Rattle.blocks.proofs.Made.{length-block}
 use Rattle.blocks.proofs.MakingLaws.{record-there, seal-made}
 use Rattle.model.specs.File.{blocksFor}
 use Rattle.model.specs.inner.Lines.{nextOf, putOn, endOf, endOn}

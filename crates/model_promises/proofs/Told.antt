@@ -6,7 +6,7 @@ use Prim.Native.Nat.{ℕ, zero, suc, _+_, _-_, _*_, _/_, _%_, _≤_, _<_}
 use native.Mathlib.Omega.{arith}
 use borrow.Author.Tests.{ltb-true, ltb-false, eqb-true}
 use lib.Dec.{ltb, eqb}
-use lib.ListN.{length, getD, take, drop, length-take, List·getD-eq-default}
+use lib.ListN.{length, getD, take, drop, length-take}
 use lib.Seq.{getD-take, getD-drop, ext-getD}
 use Rattle.sets.specs.Tests.{within, allZero}
 use Rattle.sets.proofs.Tests.{Within, within-is, and-both}

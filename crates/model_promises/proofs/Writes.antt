@@ -12,7 +12,7 @@ use lib.Seq.{take-at, getD-append-add, getD-drop}
 use Rattle.sets.specs.Stores.{onto}
 use Rattle.sets.proofs.Tests.{not-both}
 use Rattle.model.specs.File.{fileOf}
-use Rattle.model.specs.Valid.{valid, Held}
+use Rattle.model.specs.Valid.{valid}
 use Rattle.model.specs.Writing.{refusalOf, lengthOf, writtenAs, bufferOf}
 use Rattle.model.specs.declared.Model.{Model}
 use Rattle.model.specs.declared.Written.{Written}

@@ -1,15 +1,11 @@
-use mathlib.Core.Path.{_≡_, refl, sym, ap, _∙_}
-use mathlib.Core.Bool.{true}
-use mathlib.Core.List.{List, []}
-use Prim.Native.Nat.{ℕ, _+_, _*_, _-_, _≤_, _<_}
+use mathlib.Core.Path.{_≡_, refl, ap, _∙_}
+use mathlib.Core.List.{List}
+use Prim.Native.Nat.{ℕ, _-_, _≤_}
 use native.Mathlib.Omega.{arith}
 use borrow.Author.Needs.{needs}
 use lib.ListN.{length}
 use Rattle.sets.specs.Groups.{placeIn}
-use Rattle.model.specs.File.{exitRecord, recordsOf, startOf}
-use Rattle.model.specs.Records.{withExits}
-use Rattle.model.specs.Valid.{stateAt}
-use Rattle.model.specs.declared.Model.{Model}
+use Rattle.model.specs.File.{exitRecord}
 use Rattle.model.proofs.Facts.{model-good}
 use Rattle.model.proofs.KindLaws.{Ready, Lay, ready-for, exits-lined, exitsKept, exit-item, exits-few, items-start, item-put, item-there, group-end, items-there, items-end}
 use Rattle.model.proofs.writing.write_exits.Statement.{statement}
@@ -28,6 +24,10 @@ Inv-loop buffer₀ block m line₀ p₀ buffer line p = (p ≤ 512) × (length b
 
 abbrev μ-loop : tie.MeasureT-loop
 μ-loop buffer₀ block m line₀ p₀ buffer line p = 512 - p
+
+-- the buffer is ready for the records of the kind
+ready : (c : tie.Start Inv-loop2 μ-loop2 Inv-loop μ-loop) → Ready (c .args .t1) 3 (c .args .buffer .now)
+ready c = ready-for (c .args .t1) 3 (c .args .buffer .now) (c .pre .0) (omega arith) (c .pre .2)
 
 loop-holds : tie.Need-loop-holds Inv-loop2 μ-loop2 Inv-loop μ-loop
 loop-holds c = (search needs, refl, items-start _ 3 _ _ _ (c .before .pre .1))
@@ -54,8 +54,7 @@ put-record-requires c κs =
     let turn = inner .before .before .before .before in
     let s = turn .before .before .before in
     let m = s .args .t1 in
-    let ready = ready-for m 3 (s .args .buffer .now) (s .pre .0) (omega arith) (s .pre .2) in
-    item-there ready (exitsKept m) _ 512 (exits-lined m) _ _ _ _ (turn .loop-test .taken) (inner .loop2 .inv .0) (inner .loop2 .inv .2 _ ready (turn .before .loop .inv .2))
+    item-there (ready s) (exitsKept m) _ 512 (exits-lined m) _ _ _ _ (turn .loop-test .taken) (inner .loop2 .inv .0) (inner .loop2 .inv .2 _ (ready s) (turn .before .loop .inv .2))
 
 loop2-again : tie.Need-loop2-again Inv-loop2 μ-loop2 Inv-loop μ-loop
 loop2-again c =
@@ -77,17 +76,15 @@ loop-again c =
     let turn = c .before .before .before .before .before in
     let s = turn .before .before .before in
     let m = s .args .t1 in
-    let ready = ready-for m 3 (s .args .buffer .now) (s .pre .0) (omega arith) (s .pre .2) in
     let inv = turn .before .loop .inv in
-    (search needs, inner .1 ∙ inv .1, group-end ready (exitsKept m) _ 512 (exits-lined m) _ _ _ _ (inner .0) (c .loop2-test .left) (inner .2 _ ready (inv .2)))
+    (search needs, inner .1 ∙ inv .1, group-end (ready s) (exitsKept m) _ 512 (exits-lined m) _ _ _ _ (inner .0) (c .loop2-test .left) (inner .2 _ (ready s) (inv .2)))
 
 end-kind-requires : tie.Need-end-kind-requires Inv-loop2 μ-loop2 Inv-loop μ-loop
 end-kind-requires c κs =
     let s = c .before .before .before .before in
     let m = s .args .t1 in
-    let ready = ready-for m 3 (s .args .buffer .now) (s .pre .0) (omega arith) (s .pre .2) in
     let inv = c .before .before .loop .inv in
-    items-there ready (exitsKept m) _ 512 (exits-lined m) _ _ _ (inv .0) (c .before .loop-test .left) (inv .2)
+    items-there (ready s) (exitsKept m) _ 512 (exits-lined m) _ _ _ (inv .0) (c .before .loop-test .left) (inv .2)
 
 same-length : tie.Need-same-length Inv-loop2 μ-loop2 Inv-loop μ-loop
 same-length c = c .before .before .end-kind .kept .0 ∙ c .before .before .before .before .before .loop .inv .1
@@ -97,9 +94,8 @@ returns c =
     let done = c .before .before in
     let s = done .before .before .before .before .before in
     let m = s .args .t1 in
-    let ready = ready-for m 3 (s .args .buffer .now) (s .pre .0) (omega arith) (s .pre .2) in
     let inv = done .before .before .before .loop .inv in
-    items-end ready (exitsKept m) _ 512 (exits-lined m) _ _ _ _ _ (inv .0) (done .before .before .loop-test .left) (inv .2) (done .end-kind .ensures .0) (done .end-kind .ensures .1)
+    items-end (ready s) (exitsKept m) _ 512 (exits-lined m) _ _ _ _ _ (inv .0) (done .before .before .loop-test .left) (inv .2) (done .end-kind .ensures .0) (done .end-kind .ensures .1)
 
 pub write-exits-spec : {M : Type 1} → statement M
 write-exits-spec =

@@ -1,11 +1,11 @@
 use mathlib.Core.Path.{_≡_, refl, sym, ap, _∙_}
-use mathlib.Core.List.{List, []}
-use Prim.Native.Nat.{ℕ, suc, _+_, _-_, _≤_}
+use mathlib.Core.List.{List}
+use Prim.Native.Nat.{ℕ, suc, _-_, _≤_}
 use native.Mathlib.Numerals.{add-one}
 use native.Mathlib.Omega.{arith}
 use borrow.Author.Needs.{needs}
 use lib.ListN.{length}
-use Rattle.model.specs.File.{recordsOf, startOf}
+use Rattle.model.specs.File.{recordsOf}
 use Rattle.model.proofs.Facts.{model-good}
 use Rattle.model.proofs.KindLaws.{Ready, Lay, ready-for, lay-start, lay-at, header-start, header-first, header-then, header-count, kind-put, kind-there, kind-end}
 use Rattle.model.proofs.writing.write_header.Statement.{statement}

@@ -1,15 +1,10 @@
-use mathlib.Core.Path.{_≡_, refl, sym, ap, _∙_}
-use mathlib.Core.Bool.{true}
-use mathlib.Core.List.{List, []}
-use Prim.Native.Nat.{ℕ, _+_, _*_, _-_, _≤_, _<_}
+use mathlib.Core.Path.{_≡_, refl, _∙_}
+use mathlib.Core.List.{List}
+use Prim.Native.Nat.{ℕ, _-_, _≤_, _<_}
 use native.Mathlib.Omega.{arith}
 use borrow.Author.Needs.{needs}
 use lib.ListN.{length}
 use Rattle.sets.specs.Groups.{placeIn}
-use Rattle.model.specs.File.{stateRecord, recordsOf, startOf}
-use Rattle.model.specs.Records.{withExits}
-use Rattle.model.specs.Valid.{stateAt}
-use Rattle.model.specs.declared.Model.{Model}
 use Rattle.model.proofs.Facts.{rowsOf, model-good}
 use Rattle.model.proofs.KindLaws.{Ready, Lay, ready-for, limits-lined, items-start, item-put, item-there, group-end, items-there, items-end}
 use Rattle.model.proofs.writing.write_limits.Statement.{statement}
@@ -28,6 +23,10 @@ Inv-loop buffer₀ block m line₀ s₀ buffer line s = (s ≤ 16) × (length bu
 
 abbrev μ-loop : tie.MeasureT-loop
 μ-loop buffer₀ block m line₀ s₀ buffer line s = 16 - s
+
+-- the buffer is ready for the records of the kind
+ready : (c : tie.Start Inv-loop2 μ-loop2 Inv-loop μ-loop) → Ready (c .args .t1) 4 (c .args .buffer .now)
+ready c = ready-for (c .args .t1) 4 (c .args .buffer .now) (c .pre .0) (omega arith) (c .pre .2)
 
 loop-holds : tie.Need-loop-holds Inv-loop2 μ-loop2 Inv-loop μ-loop
 loop-holds c = (search needs, refl, items-start _ 4 _ _ _ (c .before .pre .1))
@@ -52,8 +51,7 @@ put-record-requires c κs =
     let turn = inner .before .before in
     let s = turn .before .before .before in
     let m = s .args .t1 in
-    let ready = ready-for m 4 (s .args .buffer .now) (s .pre .0) (omega arith) (s .pre .2) in
-    item-there ready (rowsOf m) _ 16 (limits-lined m) _ _ _ _ (turn .loop-test .taken) (inner .loop2 .inv .0) (inner .loop2 .inv .2 _ ready (turn .before .loop .inv .2))
+    item-there (ready s) (rowsOf m) _ 16 (limits-lined m) _ _ _ _ (turn .loop-test .taken) (inner .loop2 .inv .0) (inner .loop2 .inv .2 _ (ready s) (turn .before .loop .inv .2))
 
 loop2-again : tie.Need-loop2-again Inv-loop2 μ-loop2 Inv-loop μ-loop
 loop2-again c =
@@ -74,17 +72,15 @@ loop-again c =
     let turn = c .before .before .before in
     let s = turn .before .before .before in
     let m = s .args .t1 in
-    let ready = ready-for m 4 (s .args .buffer .now) (s .pre .0) (omega arith) (s .pre .2) in
     let inv = turn .before .loop .inv in
-    (search needs, inner .1 ∙ inv .1, group-end ready (rowsOf m) _ 16 (limits-lined m) _ _ _ _ (inner .0) (c .loop2-test .left) (inner .2 _ ready (inv .2)))
+    (search needs, inner .1 ∙ inv .1, group-end (ready s) (rowsOf m) _ 16 (limits-lined m) _ _ _ _ (inner .0) (c .loop2-test .left) (inner .2 _ (ready s) (inv .2)))
 
 end-kind-requires : tie.Need-end-kind-requires Inv-loop2 μ-loop2 Inv-loop μ-loop
 end-kind-requires c κs =
     let s = c .before .before .before .before in
     let m = s .args .t1 in
-    let ready = ready-for m 4 (s .args .buffer .now) (s .pre .0) (omega arith) (s .pre .2) in
     let inv = c .before .before .loop .inv in
-    items-there ready (rowsOf m) _ 16 (limits-lined m) _ _ _ (inv .0) (c .before .loop-test .left) (inv .2)
+    items-there (ready s) (rowsOf m) _ 16 (limits-lined m) _ _ _ (inv .0) (c .before .loop-test .left) (inv .2)
 
 same-length : tie.Need-same-length Inv-loop2 μ-loop2 Inv-loop μ-loop
 same-length c = c .before .before .end-kind .kept .0 ∙ c .before .before .before .before .before .loop .inv .1
@@ -94,9 +90,8 @@ returns c =
     let done = c .before .before in
     let s = done .before .before .before .before .before in
     let m = s .args .t1 in
-    let ready = ready-for m 4 (s .args .buffer .now) (s .pre .0) (omega arith) (s .pre .2) in
     let inv = done .before .before .before .loop .inv in
-    items-end ready (rowsOf m) _ 16 (limits-lined m) _ _ _ _ _ (inv .0) (done .before .before .loop-test .left) (inv .2) (done .end-kind .ensures .0) (done .end-kind .ensures .1) .0
+    items-end (ready s) (rowsOf m) _ 16 (limits-lined m) _ _ _ _ _ (inv .0) (done .before .before .loop-test .left) (inv .2) (done .end-kind .ensures .0) (done .end-kind .ensures .1) .0
 
 pub write-limits-spec : {M : Type 1} → statement M
 write-limits-spec =

@@ -25,7 +25,8 @@ use Rattle.engine.specs.declared.Subject.{Subject}
 use Rattle.engine.proofs.Config as config
 use Rattle.engine.proofs.Machine.{machine-held}
 use Rattle.sets.specs.Stores.{eachOf}
-use Rattle.exported.specs.Bytes.{shortBytes, wordBytes, configSize, entryBytes, fieldBytes, marksBytes, entriesBytes, subjectBytes, configBytes, shortOf, wordOf, entryFrom, marksFrom, entriesFrom, subjectFrom, configFrom, flagPlace, flagsRight, isConfig}
+use Rattle.blocks.specs.Made.{twoBytes}
+use Rattle.exported.specs.Bytes.{wordBytes, configSize, entryBytes, fieldBytes, marksBytes, entriesBytes, subjectBytes, configBytes, shortOf, wordOf, entryFrom, marksFrom, entriesFrom, subjectFrom, configFrom, flagPlace, flagsRight, isConfig}
 use Rattle.exported.specs.Laws.{WrittenIsRead}
 use Rattle.sets.proofs.Stores.{length-each, each-same}
 use Rattle.exported.proofs.ByteLaws.{length-entry, length-marks, length-subject, length-config}
@@ -33,7 +34,7 @@ use Rattle.exported.proofs.ByteLaws.{length-entry, length-marks, length
 -- ---- numbers
 
 -- a number in two bytes, and in four, is read back
-pub short-back : (x : ℕ) (rest : List ℕ) → shortOf (shortBytes x ++ rest) ≡ x
+pub short-back : (x : ℕ) (rest : List ℕ) → shortOf (twoBytes x ++ rest) ≡ x
 short-back x rest = omega arith
 
 word-back : (x : ℕ) (rest : List ℕ) → wordOf (wordBytes x ++ rest) ≡ x
@@ -168,7 +169,7 @@ two d h = part-table 2 0 d 0 (omega arith)
 pub short-parts : (d : List ℕ) → AreBytes d → (shortOf d % 256 ≡ getD d 0 0) × (shortOf d / 256 ≡ getD d 1 0)
 short-parts d h = let a = h 0 in (omega arith, omega arith)
 
-short-same : (d : List ℕ) → AreBytes d → 2 ≤ length d → shortBytes (shortOf d) ≡ take 2 d
+short-same : (d : List ℕ) → AreBytes d → 2 ≤ length d → twoBytes (shortOf d) ≡ take 2 d
 short-same d h l = let p = short-parts d h in (λ i. p .0 i ∷ p .1 i ∷ []) ∙ sym (two d l)
 
 -- the two numbers of which one is made
@@ -179,8 +180,8 @@ word-same : (d : List ℕ) → AreBytes d → 4 ≤ length d → wordBytes (word
 word-same d h l =
     let small : shortOf d < 65536 = omega (arith, h 0, h 1) in
     let both = halves (shortOf d) (shortOf (drop 2 d)) small in
-    (λ i. shortBytes (both .0 i) ++ shortBytes (both .1 i))
-    ∙ ap (λ (t : List ℕ). t ++ shortBytes (shortOf (drop 2 d))) (short-same d h (omega arith))
+    (λ i. twoBytes (both .0 i) ++ twoBytes (both .1 i))
+    ∙ ap (λ (t : List ℕ). t ++ twoBytes (shortOf (drop 2 d))) (short-same d h (omega arith))
     ∙ ap (λ (t : List ℕ). take 2 d ++ t) (short-same (drop 2 d) (rest-bytes d 2 h) (omega (arith, length-drop 2 d)))
     ∙ sym (take-add 2 2 d)
 

@@ -384,7 +384,7 @@ module _ (b : List ℕ) (are : AreBytes b) (ok : IsModel b) where
 pub model-written-is-read : ModelWrittenIsRead
 model-written-is-read =
     record {
-      accepted = λ m held ok. model-accepted m (model-good m ok);
+      accepted = λ m ok. model-accepted m (model-good m ok);
       back = λ m held ok. model-back m (model-good m ok) held;
       same = λ b are ok. model-same b are (is-model b ok);
     }
@@ -397,7 +397,7 @@ file-written-back file room bytes h l =
     let loads : LoadsTo file m = λ i. record { model = m; verdict = h i } in
     let held = loads-held file m bytes loads in
     let ok = loads-valid file m loads in
-    let own = model-written-is-read .accepted m held ok in
+    let own = model-written-is-read .accepted m ok in
     let same = model-written-is-read .back m held ok in
     let w = writes-exactly .back file m room bytes loads l in (
       sym (write-number b room own) ∙ ap numberOf (ap (λ (x : Model). writtenAs x (length room)) same ∙ w .0),

@@ -9,6 +9,7 @@ use Rattle.sets.specs.Groups.{lined}
 use Rattle.sets.specs.Lists.{padded}
 use Rattle.sets.specs.Stores.{eachOf}
 use Rattle.sets.specs.Tests.{allZero}
+use Rattle.blocks.specs.Made.{twoBytes}
 use Rattle.model.specs.Sizes.{mostSubjects, mostRows, mostExits, mostExitsInAll, statePlaces}
 use Rattle.model.specs.Valid.{subjectAt, stateAt, exitAt, rowAt}
 use Rattle.model.specs.declared.Exit.{Exit}
@@ -24,12 +25,9 @@ use Rattle.engine.specs.configs.Subjects.{at}
 use Rattle.engine.specs.declared.Config.{Config}
 use Rattle.engine.specs.declared.Subject.{Subject}
 
--- a number in two bytes, and in four
-abbrev pub shortBytes : ℕ → List ℕ
-shortBytes x = x % 256 ∷ x / 256 ∷ []
-
+-- a number in four bytes
 abbrev pub wordBytes : ℕ → List ℕ
-wordBytes x = shortBytes (x % 65536) ++ shortBytes (x / 65536)
+wordBytes x = twoBytes (x % 65536) ++ twoBytes (x / 65536)
 
 -- ---- a configuration: 187 bytes a subject
 
@@ -42,7 +40,7 @@ entryBytes e = e .sender ∷ e .typ ∷ cond (e .message) 1 0 ∷ wordBytes (e .
 
 -- mode, state, waited, word, mask
 abbrev pub fieldBytes : Subject → List ℕ
-fieldBytes x = x .mode ∷ x .state ∷ (shortBytes (x .waited) ++ (wordBytes (x .word) ++ shortBytes (x .mask)))
+fieldBytes x = x .mode ∷ x .state ∷ (twoBytes (x .waited) ++ (wordBytes (x .word) ++ twoBytes (x .mask)))
 
 -- the marks of each sender
 unfoldable pub marksBytes : List ℕ → List ℕ
@@ -120,7 +118,7 @@ exitBytes e = e .target ∷ e .sender ∷ e .typ ∷ []
 -- kind, exits, sender, type, duration, timeout and cancel target, receivers
 abbrev pub headBytes : State → List ℕ
 headBytes st =
-    st .kind ∷ st .exits ∷ st .sender ∷ st .typ ∷ (shortBytes (st .after) ++ (st .timeout ∷ st .cancel ∷ shortBytes (st .receivers)))
+    st .kind ∷ st .exits ∷ st .sender ∷ st .typ ∷ (twoBytes (st .after) ++ (st .timeout ∷ st .cancel ∷ twoBytes (st .receivers)))
 
 -- then the exits
 unfoldable pub stateBytes : State → List ℕ
@@ -129,7 +127,7 @@ stateBytes st = headBytes st ++ eachOf (λ x. exitBytes (exitAt st x)) mostExits
 unfoldable pub modelBytes : Model → List ℕ
 modelBytes m =
     m .n
-    ∷ (shortBytes (m .start)
+    ∷ (twoBytes (m .start)
     ++ (eachOf (λ s. ownBytes (subjectAt m s)) mostSubjects ++ eachOf (λ p. stateBytes (stateAt m p)) statePlaces))
 
 -- ---- and back: past the end of the bytes there are zeros

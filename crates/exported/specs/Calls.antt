@@ -26,7 +26,8 @@ use Rattle.engine.specs.commands.Rules.{rules, firstNumber}
 use Rattle.engine.specs.Steps.{codedStep}
 use Rattle.engine.specs.Tapes.{commands, configAfter, ran, written}
 use Rattle.sets.specs.Stores.{onto}
-use Rattle.exported.specs.Bytes.{shortBytes, configSize, configBytes, configFrom, isConfig, modelSize, modelBytes, modelFrom, isModel}
+use Rattle.blocks.specs.Made.{twoBytes}
+use Rattle.exported.specs.Bytes.{configSize, configBytes, configFrom, isConfig, modelSize, modelBytes, modelFrom, isModel}
 
 -- a buffer after a call: as it was where a refusal holds
 unfoldable pub unlessRefused : List (Bool × ℕ) → List ℕ → List ℕ → List ℕ
@@ -101,7 +102,7 @@ stepRefusals file config command values =
 -- the four masks in two bytes each, and the missing count
 abbrev pub valueBytes : List ℕ → List ℕ
 valueBytes v =
-    shortBytes (getD v 0 0) ++ (shortBytes (getD v 1 0) ++ (shortBytes (getD v 2 0) ++ (shortBytes (getD v 3 0) ++ (getD v 4 0 ∷ []))))
+    twoBytes (getD v 0 0) ++ (twoBytes (getD v 1 0) ++ (twoBytes (getD v 2 0) ++ (twoBytes (getD v 3 0) ++ (getD v 4 0 ∷ []))))
 
 abbrev pub answerBytes : Answer → List ℕ
 answerBytes answer = valueBytes (valuesOf answer)

@@ -27,7 +27,7 @@ pub record WrittenIsRead : Type 0 where
 -- of models, where every model in the machine is `Held`
 pub record ModelWrittenIsRead : Type 0 where
   -- the bytes of a valid model are a model's
-  pub accepted : (m : Model) → model-valid.Held m → model-valid.valid m ≡ true → isModel (modelBytes m) ≡ true
+  pub accepted : (m : Model) → model-valid.valid m ≡ true → isModel (modelBytes m) ≡ true
   -- and say the same model
   pub back : (m : Model) → model-valid.Held m → model-valid.valid m ≡ true → modelFrom (modelBytes m) ≡ m
   -- the bytes of a model are written as they were read

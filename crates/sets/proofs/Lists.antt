@@ -1,6 +1,6 @@
--- Laws of lists of anything: those that pass a test, how many, the first, one taken out, blank places behind, and a loop's turn for each.
+-- Laws of lists of anything: whether all or some pass a test, those that do, how many, the first, one taken out, blank places behind, and a loop's turn for each.
 use mathlib.Core.Path.{_≡_, refl, sym, ap, ap₂, subst, _∙_}
-use mathlib.Core.Bool.{Bool, true, false, _&&_, not, cond, or-true}
+use mathlib.Core.Bool.{Bool, true, false, _&&_, _||_, not, cond, or-true}
 use mathlib.Core.List.{List, [], _∷_, _++_, map, append-assoc}
 use Prim.Native.Nat.{ℕ, zero, suc, _+_, _-_, _≤_, _<_, suc-le-suc}
 use native.Mathlib.Nat.{not-suc-le-zero, le-of-suc-le-suc}
@@ -11,9 +11,9 @@ use lib.Dec.{eqb, ltb, eqb·zero-suc, eqb·suc-zero, eqb·suc-suc}
 use lib.ListN.{length, take, drop, set, getD, replicate, length-append, length-take, length-drop, length-replicate, getD-replicate, drop-of-length-le, List·getD-append}
 use lib.Seq.{take-suc, take-nil, drop-cons, split-at, take-append-seam, getD-append-add, getD-take, length-take-le, set-at, ext-getD}
 use Rattle.sets.specs.Below.{sumBelow, countBelow, tableFrom, table}
-use Rattle.sets.specs.Lists.{allOf, passing, counted, firstFrom, without, padded, folded, isOneOf}
+use Rattle.sets.specs.Lists.{allOf, someOf, passing, counted, firstFrom, without, padded, folded, isOneOf}
 use Rattle.sets.specs.declared.Found.the-variants.{At, Nothing}
-use Rattle.sets.proofs.Tests.{and-true, and-both, choose}
+use Rattle.sets.proofs.Tests.{not-both, and-true, and-both, or-other, is-false, choose}
 use Rattle.sets.proofs.Below.{no-at, at-is, table-more}
 
 -- a test that implies another counts no more
@@ -21,6 +21,11 @@ one-le : (a b : Bool) → (a ≡ true → b ≡ true) → cond a 1 0 ≤ cond b 
 one-le true b h = rw (h refl) (omega arith)
 one-le false true h = omega arith
 one-le false false h = omega arith
+
+-- of two one holds: where the one gives c and the other d, c or d
+or-both : (a c b d : Bool) → (a ≡ true → c ≡ true) → (b ≡ true → d ≡ true) → (a || b) ≡ true → (c || d) ≡ true
+or-both true c b d f g h = rw (f refl)
+or-both false c b d f g h = rw (g h, or-true c)
 
 module _ {A : Type 0} where
   -- ---- each passes
@@ -90,6 +95,44 @@ module _ {A : Type 0} where
   unfolding allOf
   all-of-each p [] f = refl
   all-of-each p (x ∷ xs) f = and-true (f x) (all-of-each p xs f)
+
+  -- ---- some pass
+
+  pub some-of-by : (p : A → Bool) (xs : List A) (d : A) (i : ℕ) → i < length xs → p (getD xs i d) ≡ true → someOf p xs ≡ true
+  unfolding someOf
+  some-of-by p [] d i l e = absurd (not-suc-le-zero l)
+  some-of-by p (x ∷ xs) d zero l e = rw e
+  some-of-by p (x ∷ xs) d (suc i) l e = rw (some-of-by p xs d i (le-of-suc-le-suc l) e, or-true (p x))
+
+  pub none-some-of : (p : A → Bool) (xs : List A) → allOf (λ x. not (p x)) xs ≡ true → someOf p xs ≡ false
+  unfolding someOf allOf
+  none-some-of p [] h = refl
+  none-some-of p (x ∷ xs) h =
+      let b = and-both (not (p x)) (allOf (λ y. not (p y)) xs) h in
+      rw (not-true (p x) (b .left), none-some-of p xs (b .right))
+
+  pub some-of-append : (p : A → Bool) (xs ys : List A) → someOf p xs ≡ true → someOf p (xs ++ ys) ≡ true
+  unfolding someOf
+  some-of-append p [] ys h = not-both h refl
+  some-of-append p (x ∷ xs) ys h = or-both (p x) (p x) (someOf p xs) (someOf p (xs ++ ys)) (λ e. e) (some-of-append p xs ys) h
+
+  pub some-of-map : (g : A → A) (p : A → Bool) (xs : List A) → ((x : A) → p x ≡ true → p (g x) ≡ true) → someOf p xs ≡ true
+      → someOf p (map g xs) ≡ true
+  unfolding someOf
+  some-of-map g p [] f h = not-both h refl
+  some-of-map g p (x ∷ xs) f h = or-both (p x) (p (g x)) (someOf p xs) (someOf p (map g xs)) (f x) (some-of-map g p xs f) h
+
+  -- where those that pass p pass q, they are among those that pass q
+  pub some-of-passing : (p q : A → Bool) (xs : List A) → ((x : A) → p x ≡ true → q x ≡ true) → someOf p xs ≡ true
+      → someOf p (passing q xs) ≡ true
+  unfolding someOf passing
+  some-of-passing p q [] f h = not-both h refl
+  some-of-passing p q (x ∷ xs) f h =
+      choose
+      (λ (ys : List A). someOf p ys ≡ true)
+      (q x)
+      (λ _. or-both (p x) (p x) (someOf p xs) (someOf p (passing q xs)) (λ k. k) (some-of-passing p q xs f) h)
+      (λ e. some-of-passing p q xs f (or-other (p x) (someOf p xs) h (is-false (p x) (λ k. not-both (f x k) e))))
 
   -- ---- those that pass
 

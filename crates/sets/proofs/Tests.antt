@@ -1,6 +1,6 @@
 -- Tests that hold, taken apart and put together.
 use mathlib.Core.Path.{_≡_, refl}
-use mathlib.Core.Bool.{Bool, true, false, _&&_, cond}
+use mathlib.Core.Bool.{Bool, true, false, _&&_, _||_, cond}
 use Prim.Native.Nat.{ℕ, _≤_}
 use native.Mathlib.Omega.{arith}
 use borrow.Author.Tests.{leb-true, le-leb}
@@ -27,6 +27,10 @@ and-both false b h = not-both h refl
 pub and-false : (a b : Bool) → b ≡ false → (a && b) ≡ false
 and-false true b h = h
 and-false false b h = refl
+
+pub or-other : (a b : Bool) → (a || b) ≡ true → a ≡ false → b ≡ true
+or-other true b h e = not-both h e
+or-other false b h e = h
 
 -- a test that is not true is false
 pub is-false : (b : Bool) → (b ≡ true → ⊥) → b ≡ false

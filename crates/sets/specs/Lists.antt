@@ -1,4 +1,4 @@
--- Lists of anything: those that pass a test, how many, the first, one taken out, blank places behind.
+-- Lists of anything: whether all or some pass a test, those that do, how many, the first, one taken out, blank places behind.
 use mathlib.Core.Bool.{Bool, true, false, _&&_, _||_, cond}
 use mathlib.Core.List.{List, [], _∷_, _++_}
 use Prim.Native.Nat.{ℕ, suc, _+_, _-_}
@@ -12,6 +12,11 @@ module _ {A : Type 0} where
   unfoldable pub allOf : (A → Bool) → List A → Bool
   allOf p [] = true
   allOf p (x ∷ xs) = p x && allOf p xs
+
+  -- some pass
+  unfoldable pub someOf : (A → Bool) → List A → Bool
+  someOf p [] = false
+  someOf p (x ∷ xs) = p x || someOf p xs
 
   -- those that pass, in order
   unfoldable pub passing : (A → Bool) → List A → List A

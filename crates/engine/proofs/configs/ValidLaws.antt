@@ -13,7 +13,7 @@ use lib.Seq.{ext-getD, getD-set-same, getD-set-other}
 use Rattle.sets.specs.Below.{allBelow}
 use Rattle.sets.specs.Lists.{allOf, counted}
 use Rattle.sets.specs.Masks.{bit, others}
-use Rattle.sets.proofs.Tests.{not-both, and-true, and-both, choose}
+use Rattle.sets.proofs.Tests.{not-both, and-true, and-both, or-other, choose}
 use Rattle.sets.proofs.Below.{all-each, all-by, length-table, table-at}
 use Rattle.sets.proofs.Masks.{bit-zero, none-other, other-none}
 use Rattle.model.specs.Rules.{any}
@@ -98,10 +98,6 @@ pub true-if : (a b : Bool) → (a ≡ true → b ≡ true) → (not a || b) ≡ 
 true-if true b f = f refl
 true-if false b f = refl
 
-or-true : (a b : Bool) → (a || b) ≡ true → a ≡ false → b ≡ true
-or-true true b h e = not-both h e
-or-true false b h e = h
-
 true-or : (a b : Bool) → (a ≡ false → b ≡ true) → (a || b) ≡ true
 true-or true b f = refl
 true-or false b f = f refl
@@ -146,7 +142,7 @@ module _ (own : model-subject.Subject) (here : State) (x : Subject) where
       (w .right) in
       let sleeps = if-true (eqb (x .mode) asleep) (eqb (x .state) (own .initial) && eqb (x .word) 0) (q .right) in
       let sending : x .mask ≢ 0 → (eqb (x .mode) running && isSend (here .kind)) ≡ true =
-      λ d. or-true (eqb (x .mask) 0) (eqb (x .mode) running && isSend (here .kind)) (m .left) (ne-eqb (x .mask) 0 d) in
+      λ d. or-other (eqb (x .mask) 0) (eqb (x .mode) running && isSend (here .kind)) (m .left) (ne-eqb (x .mask) 0 d) in
       let ended : (eqb (x .mode) endedProperly || eqb (x .mode) endedImproperly) ≡ true → isEnd (here .kind) ≡ true =
       if-true (eqb (x .mode) endedProperly || eqb (x .mode) endedImproperly) (isEnd (here .kind)) (e .right) in
       record {
@@ -157,7 +153,7 @@ module _ (own : model-subject.Subject) (here : State) (x : Subject) where
         improper = λ k. ended (rw k);
         initial = λ k. eqb-true (x .state) (own .initial) (and-both (eqb (x .state) (own .initial)) (eqb (x .word) 0) (sleeps (eq-eqb (x .mode) asleep k)) .left);
         word = λ k. eqb-true (x .word) 0 (and-both (eqb (x .state) (own .initial)) (eqb (x .word) 0) (sleeps (eq-eqb (x .mode) asleep k)) .right);
-        waited = λ k. eqb-true (x .waited) 0 (or-true (eqb (x .mode) running) (eqb (x .waited) 0) (w .left) (ne-eqb (x .mode) running k));
+        waited = λ k. eqb-true (x .waited) 0 (or-other (eqb (x .mode) running) (eqb (x .waited) 0) (w .left) (ne-eqb (x .mode) running k));
         sender = λ d. eqb-true (x .mode) running (and-both (eqb (x .mode) running) (isSend (here .kind)) (sending d) .left);
         sends = λ d. and-both (eqb (x .mode) running) (isSend (here .kind)) (sending d) .right;
         receivers = none-other mostSubjects (x .mask) (here .receivers) (eqb-true _ 0 (m .right));
@@ -195,7 +191,7 @@ marks-read n x h i g l =
     eqb-true
     (getD (x .closed) i 0)
     0
-    (or-true (ltb i n) (eqb (getD (x .closed) i 0) 0) (all-each (λ k. ltb k n || eqb (getD (x .closed) k 0) 0) mostSubjects h i l) (le-ltb i n g))
+    (or-other (ltb i n) (eqb (getD (x .closed) i 0) 0) (all-each (λ k. ltb k n || eqb (getD (x .closed) k 0) 0) mostSubjects h i l) (le-ltb i n g))
 
 pub marks-by : (n : ℕ) (x : Subject) → ((i : ℕ) → n ≤ i → i < mostSubjects → getD (x .closed) i 0 ≡ 0) → marksRight n x ≡ true
 unfolding marksRight

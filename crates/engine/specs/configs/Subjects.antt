@@ -11,7 +11,7 @@ use Rattle.model.specs.Valid.{stateAt}
 use Rattle.model.specs.declared.Model.{Model}
 use Rattle.model.specs.declared.State.{State}
 use Rattle.engine.specs.pools.Sizes.{mostEntries}
-use Rattle.engine.specs.pools.Pools.{pooled}
+use Rattle.engine.specs.pools.Pools.{held, hasMessage, pooled}
 use Rattle.engine.specs.declared.Pool.{Pool}
 use Rattle.engine.specs.declared.Config.{Config}
 use Rattle.engine.specs.declared.Subject.{Subject}
@@ -75,11 +75,11 @@ withMask w x = record { mode = x .mode; state = x .state; waited = x .waited; wo
 abbrev pub withPool : Pool → Subject → Subject
 withPool p x = record { mode = x .mode; state = x .state; waited = x .waited; word = x .word; mask = x .mask; closed = x .closed; pool = p }
 
--- entering a state: state set, waited 0, mask 0, and for an end the mode becomes 2 if the own pool has no entry, else 3
+-- entering a state: state set, waited 0, mask 0, and for an end the mode becomes 3 if a message is left in the own pool, else 2
 unfoldable pub entered : ℕ → Bool → Subject → Subject
 entered t end x =
     record {
-      mode = cond end (cond (eqb (x .pool .count) 0) endedProperly endedImproperly) (x .mode);
+      mode = cond end (cond (hasMessage (held (x .pool))) endedImproperly endedProperly) (x .mode);
       state = t;
       waited = 0;
       word = x .word;

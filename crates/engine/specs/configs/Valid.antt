@@ -13,7 +13,7 @@ use Rattle.model.specs.declared.Model.{Model}
 use Rattle.model.specs.declared.State.{State}
 use Rattle.model.specs.declared.Subject as model-subject
 use Rattle.engine.specs.pools.Sizes.{mostEntries}
-use Rattle.engine.specs.pools.Pools.{held, reservations}
+use Rattle.engine.specs.pools.Pools.{held, hasMessage, reservations}
 use Rattle.engine.specs.pools.Valid.{poolValid, isBlankPool}
 use Rattle.engine.specs.declared.Pool.{Pool}
 use Rattle.engine.specs.configs.Subjects.{asleep, running, endedProperly, endedImproperly, isSend, isEnd, at, hereOf}
@@ -59,13 +59,17 @@ maskRight here x =
     (eqb (x .mask) 0 || (eqb (x .mode) running && isSend (here .kind)))
     && eqb (length (others mostSubjects (x .mask) (here .receivers))) 0
 
+-- who ended improperly holds a message
+abbrev pub improperRight : Subject → Bool
+improperRight x = not (eqb (x .mode) endedImproperly) || hasMessage (held (x .pool))
+
 -- its fields, the pool aside
 unfoldable pub fieldsRight : model-subject.Subject → State → Subject → Bool
 fieldsRight own here x =
     ((modeRight x && stateThere own x) && (endRight here x && sleepRight own x)) && (waitRight x && maskRight here x)
 
 unfoldable pub subjectValid : ℕ → model-subject.Subject → State → Subject → Bool
-subjectValid n own here x = fieldsRight own here x && (marksRight n x && poolRight n own x)
+subjectValid n own here x = fieldsRight own here x && (marksRight n x && (poolRight n own x && improperRight x))
 
 -- subjects from n up are all zero
 unfoldable pub isNobody : Subject → Bool

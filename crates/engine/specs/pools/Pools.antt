@@ -4,7 +4,7 @@ use mathlib.Core.Bool.{not}
 use mathlib.Core.List.{List, [], _∷_, _++_, map}
 use Prim.Native.Nat.{ℕ, _≤_}
 use lib.ListN.{length, take, getD}
-use Rattle.sets.specs.Lists.{passing, counted, firstFrom, without, padded}
+use Rattle.sets.specs.Lists.{someOf, passing, counted, firstFrom, without, padded}
 use Rattle.sets.specs.declared.Found.{Found}
 use Rattle.model.specs.Rules.{any}
 use Rattle.engine.specs.pools.Entries.{blankEntry, isMessage, reservedBy, delivered}
@@ -18,6 +18,10 @@ held p = take (p .count) (p .entries)
 -- the place of the earliest message that matches
 unfoldable pub firstMessage : ℕ → ℕ → List Entry → Found
 firstMessage sender typ es = firstFrom 0 (isMessage sender typ) es
+
+-- a message is there, and not reservations alone
+unfoldable pub hasMessage : List Entry → Bool
+hasMessage es = someOf (λ e. e .message) es
 
 -- how many reservations of the sender, of the type or any
 unfoldable pub reservations : ℕ → ℕ → List Entry → ℕ

@@ -5,10 +5,11 @@ use crate::Entry;
 use crate::MOST_ENTRIES;
 use crate::Pool;
 use crate::Subject;
+use crate::pools::searches;
 use model::MOST_SUBJECTS;
 
 impl Subject {
-    // The subject comes to a state; at an end it is over: properly if its pool has no entry.
+    // The subject comes to a state; at an end it is over: improperly if a message is left in its pool.
     pub(crate) fn enter(mut self, state: u8, end: bool) -> Self
         ensures { λ r. ⌜ r ≡ entered state end self ⌝ }
     {
@@ -16,11 +17,10 @@ impl Subject {
         self.waited = 0;
         self.mask = 0;
         if end {
-            let p = self.pool;
-            if p.count == 0 {
-                self.mode = 2;
-            } else {
+            if searches::has_message(self.pool) {
                 self.mode = 3;
+            } else {
+                self.mode = 2;
             }
         }
         self

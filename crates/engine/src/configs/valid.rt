@@ -8,7 +8,7 @@ ghost use Rattle.sets.specs.Below.{allBelow};
 ghost use Rattle.model.specs.Sizes.{mostSubjects};
 ghost use Rattle.model.specs.Valid.{valid};
 ghost use Rattle.engine.specs.configs.Subjects.{at};
-ghost use Rattle.engine.specs.configs.Valid.{endRight, sleepRight, maskRight, fieldsRight, marksRight, subjectValid, isNobody, placeRight, configValid, faultOf};
+ghost use Rattle.engine.specs.configs.Valid.{endRight, sleepRight, maskRight, improperRight, fieldsRight, marksRight, subjectValid, isNobody, placeRight, configValid, faultOf};
 ghost use Rattle.engine.specs.inner.Reads.{masksOf, placesOf};
 use crate::Config;
 use crate::Pool;
@@ -59,6 +59,16 @@ fn fields_right(own: model::Subject, here: State, x: Subject) -> bool
     both(both(there, settled), both(waits, mask_right(here, x)))
 }
 
+// Who ended improperly holds a message.
+fn improper_right(x: Subject) -> bool
+    ensures { λ r. ⌜ r ≡ improperRight x ⌝ }
+{
+    if x.mode != 3 {
+        return true;
+    }
+    pools::searches::has_message(x.pool)
+}
+
 // Senders' marks from n up are all zero.
 fn marks_right(n: u8, x: Subject) -> bool
     ensures { λ r. ⌜ r ≡ marksRight n x ⌝ }
@@ -83,7 +93,10 @@ fn subject_valid(n: u8, own: model::Subject, here: State, x: Subject) -> bool
     if !marks_right(n, x) {
         return false;
     }
-    pools::valid::pool_valid(n, own, x.pool)
+    if !pools::valid::pool_valid(n, own, x.pool) {
+        return false;
+    }
+    improper_right(x)
 }
 
 // A subject that is not there is all zero.

@@ -1,10 +1,10 @@
-// What is asked of a pool: how many entries match, and which message is the earliest.
+// What is asked of a pool: how many entries match, which message is the earliest, whether there is one.
 ghost use mathlib.Core.Path.{_≡_};
 ghost use mathlib.Core.Bool.{cond};
 ghost use lib.ListN.{length};
 ghost use Rattle.sets.specs.Lists.{counted};
 ghost use Rattle.engine.specs.pools.Entries.{matches};
-ghost use Rattle.engine.specs.pools.Pools.{held, firstMessage, reservations};
+ghost use Rattle.engine.specs.pools.Pools.{held, firstMessage, hasMessage, reservations};
 use super::entries;
 use crate::MOST_ENTRIES;
 use crate::Pool;
@@ -72,4 +72,15 @@ pub(crate) fn first_message(p: Pool, sender: u8, typ: u8) -> Found
         i += 1;
     }
     Found::Nothing
+}
+
+// A message is there, and not reservations alone: the search ends at the first.
+pub(crate) fn has_message(p: Pool) -> bool
+    ensures { λ r. ⌜ r ≡ hasMessage (held p) ⌝ }
+{
+    let found = first_message(p, 255, 255);
+    match found {
+        Found::At(_) => true,
+        Found::Nothing => false,
+    }
 }

@@ -21,14 +21,14 @@ use Rattle.model.specs.declared.State.{State}
 use Rattle.model.specs.declared.Subject as model-subject
 use Rattle.engine.specs.pools.Sizes.{mostEntries}
 use Rattle.engine.specs.pools.Entries.{reservedBy, delivered}
-use Rattle.engine.specs.pools.Pools.{held, pooled, reservations, deliveredIn, withdrawnFrom, Well}
+use Rattle.engine.specs.pools.Pools.{held, pooled, hasMessage, reservations, deliveredIn, withdrawnFrom, Well}
 use Rattle.engine.specs.pools.Rows.{rowsKept}
 use Rattle.engine.specs.pools.Valid.{entryValid}
 use Rattle.engine.specs.declared.Entry.{Entry}
 use Rattle.engine.specs.declared.Pool.{Pool}
-use Rattle.engine.proofs.pools.EntryLaws.{delivered-others, delivered-none, delivered-all-valid, delivered-rows, delivered-places, delivered-empty, withdrawn-others, withdrawn-none, withdrawn-all-valid, withdrawn-rows, withdrawn-places, withdrawn-empty}
+use Rattle.engine.proofs.pools.EntryLaws.{message-delivered, message-withdrawn, delivered-others, delivered-none, delivered-all-valid, delivered-rows, delivered-places, delivered-empty, withdrawn-others, withdrawn-none, withdrawn-all-valid, withdrawn-rows, withdrawn-places, withdrawn-empty}
 use Rattle.engine.proofs.pools.PoolLaws.{held-delivered, held-withdrawn, well-delivered, well-withdrawn}
-use Rattle.engine.specs.configs.Subjects.{asleep, running, endedProperly, isEnd, at, stateOf, hereOf, eachSubject, withPool, entered, nobody, Held}
+use Rattle.engine.specs.configs.Subjects.{asleep, running, endedProperly, endedImproperly, isEnd, at, stateOf, hereOf, eachSubject, withPool, entered, nobody, Held}
 use Rattle.engine.specs.configs.Valid.{marksRight, fieldsRight, typeOf}
 use Rattle.engine.specs.declared.Config.{Config}
 use Rattle.engine.specs.declared.Subject.{Subject}
@@ -44,9 +44,9 @@ use Rattle.engine.proofs.SweepLaws.{sweep-other, sweep-each, sweep-mask
 -- ---- one subject
 
 good-pool : (m : Model) (s : ℕ) (p : Pool) (x : Subject) → GoodSubject m s x → Well mostEntries p → allOf (entryValid (m .n)) (held p) ≡ true
-    → rowsKept (subjectAt m s) (held p) ≡ true → GoodSubject m s (withPool p x)
+    → rowsKept (subjectAt m s) (held p) ≡ true → (x .mode ≡ endedImproperly → hasMessage (held p) ≡ true) → GoodSubject m s (withPool p x)
 unfolding fieldsRight marksRight
-good-pool m s p x h w e r = record { fields = h .fields; marks = h .marks; well = w; entries = e; rows = r }
+good-pool m s p x h w e r k = record { fields = h .fields; marks = h .marks; well = w; entries = e; rows = r; message = k }
 
 module _ (m : Model) (r s : ℕ) (x : Subject) (h : GoodSubject m r x) where
   good-withdrawn : GoodSubject m r (withPool (withdrawnFrom mostEntries s (x .pool)) x)
@@ -60,6 +60,7 @@ module _ (m : Model) (r s : ℕ) (x : Subject) (h : GoodSubject m r x) where
       (well-withdrawn mostEntries s (x .pool) (h .well))
       (rw (held-withdrawn mostEntries s (x .pool)) (withdrawn-all-valid s (held (x .pool)) (m .n) (h .entries)))
       (rw (held-withdrawn mostEntries s (x .pool)) (withdrawn-rows (subjectAt m r) s (held (x .pool)) (h .rows)))
+      (λ e. rw (held-withdrawn mostEntries s (x .pool)) (message-withdrawn (held (x .pool)) (h .message e) s))
 
   good-delivered : (w : ℕ) → GoodSubject m r (withPool (deliveredIn mostEntries s w (x .pool)) x)
   good-delivered w =
@@ -72,6 +73,7 @@ module _ (m : Model) (r s : ℕ) (x : Subject) (h : GoodSubject m r x) where
       (well-delivered mostEntries s (x .pool) w (h .well))
       (rw (held-delivered mostEntries s (x .pool) w) (delivered-all-valid s w (held (x .pool)) (m .n) (h .entries)))
       (rw (held-delivered mostEntries s (x .pool) w) (delivered-rows (subjectAt m r) s (held (x .pool)) (h .rows) w))
+      (λ e. rw (held-delivered mostEntries s (x .pool) w) (message-delivered (held (x .pool)) (h .message e) s w))
 
 -- who is not running has mask 0
 still-mask : (m : Model) (r : ℕ) (x : Subject) → GoodSubject m r x → x .mode ≢ running → x .mask ≡ 0
@@ -113,6 +115,7 @@ module _ (m : Model) (v : valid m ≡ true) (r : ℕ) (l : r < m .n) (x : Subjec
         well = h .well;
         entries = h .entries;
         rows = h .rows;
+        message = λ e. absurd (omega arith);
       })
       (λ _. h)
 

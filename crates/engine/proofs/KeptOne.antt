@@ -25,7 +25,7 @@ use Rattle.model.specs.declared.State.{State}
 use Rattle.model.specs.declared.Subject as model-subject
 use Rattle.engine.specs.pools.Entries.{blankEntry, matches, isMessage, reservedBy}
 use Rattle.engine.specs.pools.Sizes.{mostEntries}
-use Rattle.engine.specs.pools.Pools.{held, reservations, firstMessage, takenAt, Well}
+use Rattle.engine.specs.pools.Pools.{held, hasMessage, reservations, firstMessage, takenAt, Well}
 use Rattle.engine.specs.pools.Rows.{rowsKept}
 use Rattle.engine.specs.pools.Valid.{entryValid}
 use Rattle.engine.specs.declared.Entry.{Entry}
@@ -195,8 +195,9 @@ module _ (own : model-subject.Subject) (here : State) (t : ℕ) (x : Subject) wh
   pub fields-enter : (end : Bool) → isEnd (here .kind) ≡ end → x .mode ≡ running → t < own .states → GoodFields own here (entered t end x)
   unfolding entered
   fields-enter true e r l =
-      let ended : (2 ≤ cond (eqb (x .pool .count) 0) endedProperly endedImproperly) × (cond (eqb (x .pool .count) 0) endedProperly endedImproperly ≤ 3) =
-      choose (λ (n : ℕ). (2 ≤ n) × (n ≤ 3)) (eqb (x .pool .count) 0) (λ _. (omega arith, omega arith)) (λ _. (omega arith, omega arith)) in
+      let left = hasMessage (held (x .pool)) in
+      let ended : (2 ≤ cond left endedImproperly endedProperly) × (cond left endedImproperly endedProperly ≤ 3) =
+      choose (λ (n : ℕ). (2 ≤ n) × (n ≤ 3)) left (λ _. (omega arith, omega arith)) (λ _. (omega arith, omega arith)) in
       let low = ended .0 in
       record {
         mode = ended .1;
@@ -226,6 +227,16 @@ module _ (own : model-subject.Subject) (here : State) (t : ℕ) (x : Subject) wh
         receivers = λ q _ a. not-both a (bit-zero q);
       }
 
+-- who was running has ended improperly only where a message is left
+message-enter : (t : ℕ) (end : Bool) (x : Subject) → x .mode ≡ running → entered t end x .mode ≡ endedImproperly → hasMessage (held (x .pool)) ≡ true
+unfolding entered
+message-enter t true x r e = go (hasMessage (held (x .pool))) refl e
+  where
+    go : (b : Bool) → hasMessage (held (x .pool)) ≡ b → cond b endedImproperly endedProperly ≡ endedImproperly → hasMessage (held (x .pool)) ≡ true
+    go true h k = h
+    go false h k = absurd (omega arith)
+message-enter t false x r e = absurd (omega arith)
+
 module _ (m : Model) (s t : ℕ) (x : Subject) where
   pub good-enter : GoodStock m s x → x .mode ≡ running → t < subjectAt m s .states → GoodSubject m s (entered t (isEnd (stateOf m s t .kind)) x)
   unfolding entered
@@ -237,6 +248,7 @@ module _ (m : Model) (s t : ℕ) (x : Subject) where
         well = y .well;
         entries = y .entries;
         rows = y .rows;
+        message = message-enter t (isEnd (stateOf m s t .kind)) x r;
       }
 
 module _ (t : ℕ) (end : Bool) (x : Subject) where
@@ -380,6 +392,9 @@ module _ (x : Subject) where
   tick-pool : ticked x .pool ≡ x .pool
   tick-pool = ticked-cases (λ y. y .pool ≡ x .pool) x (λ _ _. refl) refl
 
+  tick-mode : ticked x .mode ≡ x .mode
+  tick-mode = ticked-cases (λ y. y .mode ≡ x .mode) x (λ _ _. refl) refl
+
   tick-closed : ticked x .closed ≡ x .closed
   tick-closed = ticked-cases (λ y. y .closed ≡ x .closed) x (λ _ _. refl) refl
 
@@ -414,6 +429,7 @@ tick-good m s x g =
       well = y .well;
       entries = y .entries;
       rows = y .rows;
+      message = λ e. rw (tick-pool x) (g .message (sym (tick-mode x) ∙ e));
     }
 
 tick-nobody : ticked nobody ≡ nobody

@@ -16,12 +16,12 @@ use Rattle.model.specs.declared.Model.{Model}
 use Rattle.model.specs.declared.State.{State}
 use Rattle.engine.specs.pools.Entries.{reservation, fits}
 use Rattle.engine.specs.pools.Sizes.{mostEntries}
-use Rattle.engine.specs.pools.Pools.{held, appended, reservations, Well}
+use Rattle.engine.specs.pools.Pools.{held, appended, hasMessage, reservations, Well}
 use Rattle.engine.specs.pools.Rows.{rowsKept, hasRoom}
 use Rattle.engine.specs.pools.Valid.{entryValid}
 use Rattle.engine.specs.declared.Pool.{Pool}
-use Rattle.engine.proofs.pools.AppendLaws.{length-appended, held-appended, well-appended, valid-reserved, count-reserved, place-free, rows-reserved}
-use Rattle.engine.specs.configs.Subjects.{running, nobody, at, stateOf, hereOf, withMask, withPool, Held}
+use Rattle.engine.proofs.pools.AppendLaws.{length-appended, held-appended, well-appended, message-appended, valid-reserved, count-reserved, place-free, rows-reserved}
+use Rattle.engine.specs.configs.Subjects.{running, endedImproperly, nobody, at, stateOf, hereOf, withMask, withPool, Held}
 use Rattle.engine.specs.configs.Valid.{typeOf, fieldsRight, marksRight}
 use Rattle.engine.specs.declared.Config.{Config}
 use Rattle.engine.specs.declared.Subject.{Subject}
@@ -32,11 +32,12 @@ use Rattle.engine.specs.commands.Reserve.{rounds, reserving}
 use Rattle.engine.specs.declared.Reply.the-variants.{Placed}
 use Rattle.engine.proofs.RoundLaws.{isReply, placed-room, isAsked, replyIn, answers, round-after, noted-is, size-reserving, reserving-at}
 
--- the pool of subject r is good
-record GoodPool (m : Model) (r : ℕ) (p : Pool) : Type 0 where
+-- the pool of subject r, in this mode, is good
+record GoodPool (m : Model) (r mode : ℕ) (p : Pool) : Type 0 where
   well : Well mostEntries p
   entries : allOf (entryValid (m .n)) (held p) ≡ true
   rows : rowsKept (subjectAt m r) (held p) ≡ true
+  message : mode ≡ endedImproperly → hasMessage (held p) ≡ true
 
 -- two bits that are never both set
 one-of : (a b : Bool) → (b ≡ true → a ≡ false) → _≡_ {A = ℕ} (cond a 1 0 + cond b 1 0) (cond (a || b) 1 0)
@@ -141,10 +142,10 @@ module _ (m : Model) (c : Config) (s : ℕ) where
 
     -- ---- the pools
 
-    pool-good : (r : ℕ) → r < m .n → GoodPool m r (poolAfter m c s r)
+    pool-good : (r : ℕ) → r < m .n → GoodPool m r (at c r .mode) (poolAfter m c s r)
     pool-good r j =
         choose
-        (GoodPool m r)
+        (GoodPool m r (at c r .mode))
         (gives m c s r)
         (λ e. let room = giver r e .room in
         let es = held (at c r .pool) in
@@ -155,8 +156,9 @@ module _ (m : Model) (c : Config) (s : ℕ) where
           well = well-appended mostEntries (at c r .pool) (reservation s t) free;
           entries = rw long (valid-reserved es s t (m .n) l (right .sends send) (x .entries));
           rows = rw long (rows-reserved mostEntries es s t (subjectAt m r) room (x .rows));
+          message = λ e. rw long (message-appended es (reservation s t) (x .message e));
         })
-        (λ _. record { well = x .well; entries = x .entries; rows = x .rows })
+        (λ _. record { well = x .well; entries = x .entries; rows = x .rows; message = x .message })
       where
         x : GoodSubject m r (at c r)
         x = g .subject r j
@@ -228,6 +230,7 @@ module _ (m : Model) (c : Config) (s : ℕ) where
           well = p .well;
           entries = p .entries;
           rows = p .rows;
+          message = p .message;
         }
 
     -- who is not there is no receiver

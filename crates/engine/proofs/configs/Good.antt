@@ -9,10 +9,10 @@ use Rattle.model.specs.Sizes.{mostSubjects}
 use Rattle.model.specs.Valid.{subjectAt}
 use Rattle.model.specs.declared.Model.{Model}
 use Rattle.engine.specs.pools.Sizes.{mostEntries}
-use Rattle.engine.specs.pools.Pools.{held, reservations, Well}
+use Rattle.engine.specs.pools.Pools.{held, hasMessage, reservations, Well}
 use Rattle.engine.specs.pools.Rows.{rowsKept}
 use Rattle.engine.specs.pools.Valid.{entryValid}
-use Rattle.engine.specs.configs.Subjects.{nobody, at, stateOf, hereOf}
+use Rattle.engine.specs.configs.Subjects.{endedImproperly, nobody, at, stateOf, hereOf}
 use Rattle.engine.specs.configs.Valid.{fieldsRight, marksRight, typeOf}
 use Rattle.engine.specs.declared.Config.{Config}
 use Rattle.engine.specs.declared.Subject.{Subject}
@@ -24,6 +24,7 @@ pub record GoodSubject (m : Model) (s : ℕ) (x : Subject) : Type 0 where
   pub well : Well mostEntries (x .pool)
   pub entries : allOf (entryValid (m .n)) (held (x .pool)) ≡ true
   pub rows : rowsKept (subjectAt m s) (held (x .pool)) ≡ true
+  pub message : x .mode ≡ endedImproperly → hasMessage (held (x .pool)) ≡ true
 
 -- of all: subjects that are there, those that are not, and where each sender has a place
 pub record GoodConfig (m : Model) (c : Config) : Type 0 where

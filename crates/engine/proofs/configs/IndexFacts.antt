@@ -42,7 +42,7 @@ state-there m c s l g h =
     let own = subjectAt m s in
     let here = hereOf m c s in
     let right = rw (lt-ltb s (m .n) g) at (all-each (subjectRight m c) mostSubjects h s l) in
-    let fields = and-both (fieldsRight own here x) (marksRight (m .n) x && poolRight (m .n) own x) right .left in
+    let fields = and-both (fieldsRight own here x) _ right .left in
     let first = and-both ((modeRight x && stateThere own x) && (endRight here x && sleepRight own x)) (waitRight x && maskRight here x) fields .left in
     let there = and-both (modeRight x && stateThere own x) (endRight here x && sleepRight own x) first .left in
     ltb-true (x .state) (own .states) (and-both (modeRight x) (stateThere own x) there .right)

@@ -23,7 +23,7 @@ use Rattle.model.specs.declared.Model.{Model}
 use Rattle.model.specs.declared.State.{State}
 use Rattle.model.specs.declared.Subject as model-subject
 use Rattle.engine.specs.pools.Sizes.{mostEntries}
-use Rattle.engine.specs.pools.Pools.{held, reservations}
+use Rattle.engine.specs.pools.Pools.{held, hasMessage, reservations}
 use Rattle.engine.specs.pools.Rows.{rowsKept, rowKept, rowCount}
 use Rattle.engine.specs.pools.Valid.{entryValid, poolValid, isBlankPool}
 use Rattle.engine.specs.declared.Entry.{Entry}
@@ -31,7 +31,7 @@ use Rattle.engine.specs.declared.Pool.{Pool}
 use Rattle.engine.proofs.pools.PoolLaws.{held-pooled, pooled-places, well-pooled, pooled-held, well-short, well-of, entries-valid, rows-kept, valid-by, blank-is, blank-pooled}
 use Rattle.engine.specs.configs.Fresh.{starting, freshSubject, freshConfig}
 use Rattle.engine.specs.configs.Subjects.{asleep, running, endedProperly, endedImproperly, isSend, isEnd, noOne, at, stateOf, hereOf, put, eachSubject, nobody, Held}
-use Rattle.engine.specs.configs.Valid.{modeRight, poolRight, marksRight, stateThere, endRight, sleepRight, waitRight, maskRight, fieldsRight, subjectValid, isNobody, subjectRight, typeOf, placeRight, placesRight, configValid}
+use Rattle.engine.specs.configs.Valid.{modeRight, poolRight, marksRight, stateThere, endRight, sleepRight, waitRight, maskRight, improperRight, fieldsRight, subjectValid, isNobody, subjectRight, typeOf, placeRight, placesRight, configValid}
 use Rattle.engine.specs.declared.Config.{Config}
 use Rattle.engine.specs.declared.Subject.{Subject}
 use Rattle.engine.proofs.configs.Good.{GoodSubject, GoodConfig}
@@ -237,14 +237,16 @@ module _ (m : Model) (s : ℕ) (x : Subject) where
   pub subject-good : HeldSubject x → subjectValid (m .n) (subjectAt m s) (stateOf m s (x .state)) x ≡ true → GoodSubject m s x
   unfolding subjectValid
   subject-good g h =
-      let a = and-both (fieldsRight (subjectAt m s) (stateOf m s (x .state)) x) (marksRight (m .n) x && poolRight (m .n) (subjectAt m s) x) h in
-      let b = and-both (marksRight (m .n) x) (poolRight (m .n) (subjectAt m s) x) (a .right) in
+      let a = and-both (fieldsRight (subjectAt m s) (stateOf m s (x .state)) x) (marksRight (m .n) x && (poolRight (m .n) (subjectAt m s) x && improperRight x)) h in
+      let b = and-both (marksRight (m .n) x) (poolRight (m .n) (subjectAt m s) x && improperRight x) (a .right) in
+      let p = and-both (poolRight (m .n) (subjectAt m s) x) (improperRight x) (b .right) in
       record {
         fields = a .left;
         marks = b .left;
-        well = well-of mostEntries (m .n) (subjectAt m s) (x .pool) (g .entries) (b .right);
-        entries = entries-valid mostEntries (m .n) (subjectAt m s) (x .pool) (g .entries) (b .right);
-        rows = rows-kept mostEntries (m .n) (subjectAt m s) (x .pool) (b .right);
+        well = well-of mostEntries (m .n) (subjectAt m s) (x .pool) (g .entries) (p .left);
+        entries = entries-valid mostEntries (m .n) (subjectAt m s) (x .pool) (g .entries) (p .left);
+        rows = rows-kept mostEntries (m .n) (subjectAt m s) (x .pool) (p .left);
+        message = λ e. if-true (eqb (x .mode) endedImproperly) (hasMessage (held (x .pool))) (p .right) (eq-eqb (x .mode) endedImproperly e);
       }
 
   pub good-subject : GoodSubject m s x → subjectValid (m .n) (subjectAt m s) (stateOf m s (x .state)) x ≡ true
@@ -252,8 +254,12 @@ module _ (m : Model) (s : ℕ) (x : Subject) where
   good-subject g =
       and-true
       (g .fields)
-      (and-true (g .marks) (ap (poolValid mostEntries (m .n) (subjectAt m s)) (sym (pooled-held mostEntries (x .pool) (g .well)))
-      ∙ valid-by mostEntries (m .n) (subjectAt m s) (held (x .pool)) (well-short mostEntries (x .pool) (g .well)) (g .entries) (g .rows)))
+      (and-true
+      (g .marks)
+      (and-true
+      (ap (poolValid mostEntries (m .n) (subjectAt m s)) (sym (pooled-held mostEntries (x .pool) (g .well)))
+      ∙ valid-by mostEntries (m .n) (subjectAt m s) (held (x .pool)) (well-short mostEntries (x .pool) (g .well)) (g .entries) (g .rows))
+      (true-if (eqb (x .mode) endedImproperly) (hasMessage (held (x .pool))) (λ e. g .message (eqb-true (x .mode) endedImproperly e)))))
 
 -- ---- all of it
 
@@ -358,6 +364,7 @@ start-good m v s l mode h =
       well = well-pooled mostEntries [] (omega arith);
       entries = ap (allOf (entryValid (m .n))) (held-pooled mostEntries []) ∙ all-empty (m .n);
       rows = ap (rowsKept (subjectAt m s)) (held-pooled mostEntries []) ∙ rows-empty (subjectAt m s);
+      message = λ e. absurd (other 1 h e);
     }
   where
     few : (mode ≡ running) ⊎ (mode ≡ asleep) → mode ≤ 3

@@ -10,13 +10,13 @@ use lib.ListN.{length, length-append}
 use Rattle.sets.specs.Lists.{allOf, counted}
 use Rattle.sets.proofs.Tests.{and-true, and-both}
 use Rattle.sets.proofs.Below.{all-each, all-by}
-use Rattle.sets.proofs.Lists.{all-of-append, counted-append}
+use Rattle.sets.proofs.Lists.{all-of-append, some-of-append, counted-append}
 use Rattle.model.specs.Sizes.{mostRows}
 use Rattle.model.specs.Valid.{rowAt}
 use Rattle.model.specs.declared.Row.{Row}
 use Rattle.model.specs.declared.Subject.{Subject}
 use Rattle.engine.specs.pools.Entries.{reservation, fits, matches, reservedBy}
-use Rattle.engine.specs.pools.Pools.{held, appended, reservations, Well}
+use Rattle.engine.specs.pools.Pools.{held, appended, hasMessage, reservations, Well}
 use Rattle.engine.specs.pools.Rows.{rowCount, rowKept, rowHasRoom, eachRow, rowsKept, hasRoom}
 use Rattle.engine.specs.pools.Valid.{entryValid}
 use Rattle.engine.specs.declared.Entry.{Entry}
@@ -40,6 +40,12 @@ module _ (places : ℕ) (p : Pool) (e : Entry) where
   pub well-appended : length (held p) < places → Well places (appended places p e)
   unfolding appended
   well-appended l = well-pooled places (held p ++ (e ∷ [])) (longer l)
+
+-- ---- its list
+
+pub message-appended : (es : List Entry) (e : Entry) → hasMessage es ≡ true → hasMessage (es ++ (e ∷ [])) ≡ true
+unfolding hasMessage
+message-appended es e h = some-of-append _ es (e ∷ []) h
 
 -- ---- its list, where the entry is a reservation
 

@@ -1,4 +1,4 @@
--- Which entries match; and what delivering and withdrawing do to a list of entries: to the reservations of each sender, to the rows and to validity.
+-- Which entries match; and what delivering and withdrawing do to a list of entries: to the reservations of each sender, to the messages, to the rows and to validity.
 use mathlib.Core.Path.{_≡_, refl, sym, ap, ap₂, _∙_}
 use mathlib.Core.Logic.{_≢_}
 use mathlib.Core.Bool.{Bool, true, false, _&&_, _||_, not, cond}
@@ -11,15 +11,16 @@ use lib.Bits.{bitOr, or-add-and, or-lt, or-block, or-zero-r, and-mask}
 use lib.Dec.{eqb, ltb, lit<}
 use lib.ListN.{length, length-map}
 use Rattle.sets.specs.Lists.{allOf, passing, counted}
+use Rattle.sets.specs.declared.Found.the-variants.{At, Nothing}
 use Rattle.sets.proofs.Tests.{and-true, and-both, and-false, not-both, is-false, choose}
 use Rattle.sets.proofs.Below.{all-each, all-by}
-use Rattle.sets.proofs.Lists.{all-of-passing, all-of-weaker, all-of-map, all-of-each, counted-map, counted-same, counted-passing, counted-weaker, counted-bound, length-passing, passing-all, none-counted}
+use Rattle.sets.proofs.Lists.{some-of-by, none-some-of, some-of-map, some-of-passing, find-is, find-none, all-of-passing, all-of-weaker, all-of-map, all-of-each, counted-map, counted-same, counted-passing, counted-weaker, counted-bound, length-passing, passing-all, none-counted}
 use Rattle.model.specs.Rules.{any}
 use Rattle.model.specs.Sizes.{mostRows}
 use Rattle.model.specs.Valid.{rowAt}
 use Rattle.model.specs.declared.Subject.{Subject}
-use Rattle.engine.specs.pools.Entries.{fits, matches, reservedBy, delivered, messageFor}
-use Rattle.engine.specs.pools.Pools.{held, pooled, reservations, deliveredIn, withdrawnFrom}
+use Rattle.engine.specs.pools.Entries.{blankEntry, fits, matches, isMessage, reservedBy, delivered, messageFor}
+use Rattle.engine.specs.pools.Pools.{held, pooled, firstMessage, hasMessage, reservations, deliveredIn, withdrawnFrom}
 use Rattle.engine.specs.pools.Rows.{rowCount, rowKept, rowsKept}
 use Rattle.engine.specs.pools.Valid.{contentRight, senderThere, typeThere, entryValid}
 use Rattle.engine.specs.declared.Entry.{Entry}
@@ -198,6 +199,45 @@ module _ (s : ℕ) (es : List Entry) where
 
   pub withdrawn-all-valid : (n : ℕ) → allOf (entryValid n) es ≡ true → allOf (entryValid n) (passing (λ e. not (reservedBy s any e)) es) ≡ true
   withdrawn-all-valid n h = all-of-passing (entryValid n) (λ e. not (reservedBy s any e)) es h
+
+-- ---- whether a message is there
+
+any-message : (e : Entry) → isMessage any any e ≡ e .message
+unfolding isMessage matches
+any-message e = go (e .message)
+  where
+    go : (b : Bool) → (b && true) ≡ b
+    go true = refl
+    go false = refl
+
+module _ (es : List Entry) where
+  -- exactly where the search for any finds one
+  pub message-found : (i : ℕ) → firstMessage any any es ≡ At i → hasMessage es ≡ true
+  unfolding firstMessage hasMessage
+  message-found i h =
+      let f = find-is (isMessage any any) es blankEntry i h in
+      some-of-by _ es blankEntry i (f .below) (sym (any-message _) ∙ f .here)
+
+  pub message-none : firstMessage any any es ≡ Nothing → hasMessage es ≡ false
+  unfolding firstMessage hasMessage
+  message-none h =
+      none-some-of _ es (all-of-weaker _ _ es (λ e k. ap not (sym (any-message e)) ∙ k) (find-none (isMessage any any) es h))
+
+  -- delivering and withdrawing take none away
+  module _ (h : hasMessage es ≡ true) (s : ℕ) where
+    pub message-delivered : (w : ℕ) → hasMessage (map (delivered s w) es) ≡ true
+    unfolding hasMessage delivered
+    message-delivered w =
+        some-of-map
+        (delivered s w)
+        _
+        es
+        (λ e k. choose (λ (x : Entry). x .message ≡ true) (reservedBy s any e) (λ _. refl) (λ _. k))
+        h
+
+    pub message-withdrawn : hasMessage (passing (λ e. not (reservedBy s any e)) es) ≡ true
+    unfolding hasMessage reservedBy
+    message-withdrawn = some-of-passing _ _ es (λ e k. rw k) h
 
 -- ---- rows
 

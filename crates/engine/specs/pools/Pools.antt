@@ -1,6 +1,6 @@
 -- A pool is the list of its entries in order of arrival: `held p`. The struct is how the list is stored, in so many places: `pooled places es`.
 use mathlib.Core.Path.{_≡_}
-use mathlib.Core.Bool.{not}
+use mathlib.Core.Bool.{Bool, not}
 use mathlib.Core.List.{List, [], _∷_, _++_, map}
 use Prim.Native.Nat.{ℕ, _≤_}
 use lib.ListN.{length, take, getD}

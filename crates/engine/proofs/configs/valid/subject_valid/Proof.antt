@@ -16,8 +16,16 @@ returns-2 c = rw (sym (c .before .before .before .fields-right .ensures) ∙ not
 returns-3 : tie.Need-returns-3
 unfolding subjectValid
 returns-3 c =
-    rw (sym (c .before .before .before .before .fields-right .ensures) ∙ not-false _ (c .before .before .before .if1 .left), sym (c .before .before .marks-right .ensures) ∙ not-false _ (c .before .if2 .left))
-    (c .pool-valid .ensures)
+    let two = c .before .before in
+    rw (sym (two .before .before .before .fields-right .ensures) ∙ not-false _ (two .before .before .if1 .left), sym (two .before .marks-right .ensures) ∙ not-false _ (two .if2 .left), sym (c .before .pool-valid .ensures) ∙ not-true _ (c .if3 .taken))
+
+returns-4 : tie.Need-returns-4
+unfolding subjectValid
+returns-4 c =
+    let three = c .before in
+    let two = three .before .before in
+    rw (sym (two .before .before .before .fields-right .ensures) ∙ not-false _ (two .before .before .if1 .left), sym (two .before .marks-right .ensures) ∙ not-false _ (two .if2 .left), sym (three .before .pool-valid .ensures) ∙ not-false _ (three .if3 .left))
+    (c .improper-right .ensures)
 
 pub subject-valid-spec : {M : Type 1} → statement M
 subject-valid-spec =
@@ -28,4 +36,6 @@ subject-valid-spec =
     (λ c κs. search needs)
     returns-2
     (λ c κs. search needs)
-    returns-3)
+    returns-3
+    (λ c κs. search needs)
+    returns-4)

@@ -59,12 +59,12 @@ use Rattle.demands.proofs.Limits.{gets-exactly}
 -- ---- what the command of another leaves of a subject
 
 -- x has become y: its marks stay, it has ended improperly exactly if it had, and running it keeps mode, state and mask
-record LeftAlone (x y : Subject) : Type 0 where
-  closed : y .closed ≡ x .closed
-  improper : (y .mode ≡ endedImproperly) ↔ (x .mode ≡ endedImproperly)
-  mode : x .mode ≡ running → y .mode ≡ x .mode
-  state : x .mode ≡ running → y .state ≡ x .state
-  mask : x .mode ≡ running → y .mask ≡ x .mask
+pub record LeftAlone (x y : Subject) : Type 0 where
+  pub closed : y .closed ≡ x .closed
+  pub improper : (y .mode ≡ endedImproperly) ↔ (x .mode ≡ endedImproperly)
+  pub mode : x .mode ≡ running → y .mode ≡ x .mode
+  pub state : x .mode ≡ running → y .state ≡ x .state
+  pub mask : x .mode ≡ running → y .mask ≡ x .mask
 
 -- nothing but wait, word and pool has changed
 alone-by : (x y : Subject) → y .closed ≡ x .closed → y .mode ≡ x .mode → y .state ≡ x .state → y .mask ≡ x .mask → LeftAlone x y
@@ -135,7 +135,7 @@ module _ (m : Model) (c : Config) (h : Held c) (r : ℕ) (l : r < mostSubjects) 
   alone-taking s e end Nothing d = alone-same (at c r) (at c r) refl
 
   -- an accepted command that names no r
-  left-alone : (k : Command) → refusalOf (stepped m c k .answer) ≡ 0 → (names k ≡ true → r ≢ subjectOf k) → LeftAlone (at c r) (at (effectOf m c k .config) r)
+  pub left-alone : (k : Command) → refusalOf (stepped m c k .answer) ≡ 0 → (names k ≡ true → r ≢ subjectOf k) → LeftAlone (at c r) (at (effectOf m c k .config) r)
   unfolding effect doing taking runningOn delivering ticking
   left-alone (Do s e w) fine d = alone-put s _ (d refl)
   left-alone (Reserve s) fine d =
@@ -259,7 +259,7 @@ module _ (m : Model) (owner healthy probe : ℕ) (other : probe ≢ healthy) (ap
           let ne : subjectOf k ≢ healthy = λ q. other (sym s ∙ q) in
           record {
             placed = λ _ _ _. count-placed (subjectOf k) healthy ne (typeOf (hereOf m c (subjectOf k))) (held (at c owner .pool));
-            sent = λ word. count-sent (subjectOf k) healthy ne word (held (at c owner .pool));
+            sent = λ _ word. count-sent (subjectOf k) healthy ne word (held (at c owner .pool));
             taken = λ q _. absurd (apart (sym (q ∙ s)));
             withdrawn = count-withdrawn (subjectOf k) healthy ne (held (at c owner .pool));
           }

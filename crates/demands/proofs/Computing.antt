@@ -63,7 +63,7 @@ unfoldable pub computing : Unit {0}
 unfolding
     below.allBelow below.sumBelow below.tableFrom
     groups.inPlaces
-    lists.allOf lists.passing lists.counted lists.firstFrom lists.without lists.padded lists.folded
+    lists.allOf lists.someOf lists.passing lists.counted lists.firstFrom lists.without lists.padded lists.folded
     masks.bit masks.withBit masks.withoutBit masks.members masks.others
     checks.checkOf
     model-records.withExits
@@ -71,7 +71,7 @@ unfolding
     model-valid.exitsFrom model-valid.isBlankState model-valid.exitValid model-valid.stateOwn model-valid.stateValid model-valid.rowValid model-valid.subjectOwn model-valid.subjectValid model-valid.subjectRight model-valid.firstRight model-valid.stateRight model-valid.exitsInAll model-valid.noneAfter model-valid.noMoreExits model-valid.valid
     samples.modelP
     entries.matches entries.isMessage entries.reservedBy entries.delivered
-    pools.held pools.pooled pools.appended pools.firstMessage pools.takenAt pools.reservations pools.deliveredIn pools.withdrawnFrom
+    pools.held pools.pooled pools.appended pools.firstMessage pools.hasMessage pools.takenAt pools.reservations pools.deliveredIn pools.withdrawnFrom
     rows.rowCount rows.rowKept rows.rowHasRoom rows.rowsKept rows.hasRoom
     pool-valid.entryValid pool-valid.placeValid pool-valid.poolValid pool-valid.isBlankPool
     fresh.starting fresh.freshSubject fresh.freshConfig fresh.freshOf

@@ -5,6 +5,7 @@ pub mod PoolMoves
 pub mod Senders
 pub mod Limits
 pub mod Chatter
+pub mod Ends
 pub mod OnTapes
 pub mod Timeouts
 pub mod EveryCall

@@ -42,7 +42,7 @@ use Rattle.engine_promises.proofs.Refusals.{effectOf, Accepted, accepted-tells}
 -- P holds of the pool of r after whatever a command may do to it that names s
 pub record Moved (m : Model) (c : Config) (s r : ℕ) (P : List Entry → Type 0) : Type 0 where
   pub placed : s < m .n → isSend (hereOf m c s .kind) ≡ true → bit (hereOf m c s .receivers) r ≡ true → P (held (at c r .pool) ++ (reservation s (typeOf (hereOf m c s)) ∷ []))
-  pub sent : (word : ℕ) → P (map (delivered s word) (held (at c r .pool)))
+  pub sent : refusalOf (stepped m c (Deliver s) .answer) ≡ 0 → (word : ℕ) → P (map (delivered s word) (held (at c r .pool)))
   pub taken : r ≡ s → (i : ℕ) → P (without i (held (at c r .pool)))
   pub withdrawn : P (passing (λ e. not (reservedBy s any e)) (held (at c r .pool)))
 
@@ -88,7 +88,7 @@ module _ (m : Model) (c : Config) (h : Held c) (r : ℕ) (l : r < mostSubjects) 
           rw (pool-placed (m .subjects) (hereOf m c s) c s h (subject-there m (told .model) s (told .there)) r l e)
           (p refl .placed (told .there) (not-false _ (told .none 2)) (placed-only (m .subjects) (hereOf m c s) c s r l e .receiver))
       go false e = rw (pool-other (m .subjects) (hereOf m c s) c s h (subject-there m (told .model) s (told .there)) r l e) same
-  pool-moved (Deliver s) fine same p = rw (held-delivering (m .subjects) (hereOf m c s) (endsAt m c (Deliver s)) c s r l) (p refl .sent (at c s .word))
+  pool-moved (Deliver s) fine same p = rw (held-delivering (m .subjects) (hereOf m c s) (endsAt m c (Deliver s)) c s r l) (p refl .sent fine (at c s .word))
   pool-moved (Take s e) fine same p =
       taking-moves s e (endsAt m c (Take s e)) (wantedAt (hereOf m c s) e (at c s)) (in-array (Take s e) (accepted-tells m c (Take s e) fine)) same (p refl)
   pool-moved (Run s) fine same p =

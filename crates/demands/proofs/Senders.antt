@@ -81,7 +81,7 @@ module _ (m : Model) (v : valid m ≡ true) (owner : ℕ) (c : Config) (h : Held
         placed = λ j sends named.
             all-of-append (fromSender m owner) (held (at c owner .pool)) _ p
             (from-one m owner _ (can-send m owner s (here-sends s j (eqb-true (hereOf m c s .kind) 2 sends) named)));
-        sent = λ word.
+        sent = λ _ word.
             all-of-map (delivered s word) (fromSender m owner) (held (at c owner .pool))
             (all-of-weaker (fromSender m owner) _ (held (at c owner .pool)) (λ e q. ap (canSend m owner) (delivered-sender s word e) ∙ q) p);
         taken = λ _ i. all-of-without (fromSender m owner) i (held (at c owner .pool)) p;

@@ -72,9 +72,9 @@ marked =
     -- Expire 1 after 2 ticks: 19; after 3: accepted, state 1
     ∷ (refusalP (Tick ∷ Tick ∷ []) (Expire 1) ∷ [], 19 ∷ [])
     ∷ (refusalP (Tick ∷ Tick ∷ Tick ∷ []) (Expire 1) ∷ at (nextP (Tick ∷ Tick ∷ Tick ∷ []) (Expire 1) .config) 1 .state ∷ [], 0 ∷ 1 ∷ [])
-    -- Expire 1 after 3 ticks with a reservation waiting: mode 3; then Deliver 0: 17
-    ∷ (at (nextP (firstTwo ++ (Tick ∷ Tick ∷ Tick ∷ [])) (Expire 1) .config) 1 .mode ∷ [], 3 ∷ [])
-    ∷ (refusalP (firstTwo ++ (Tick ∷ Tick ∷ Tick ∷ Expire 1 ∷ [])) (Deliver 0) ∷ [], 17 ∷ [])
+    -- Expire 1 after 3 ticks with a reservation waiting: mode 2; then Deliver 0 is accepted
+    ∷ (at (nextP (firstTwo ++ (Tick ∷ Tick ∷ Tick ∷ [])) (Expire 1) .config) 1 .mode ∷ [], 2 ∷ [])
+    ∷ (refusalP (firstTwo ++ (Tick ∷ Tick ∷ Tick ∷ Expire 1 ∷ [])) (Deliver 0) ∷ [], 0 ∷ [])
     -- Deliver 0 after the first command alone: 16
     ∷ (refusalP (Do 0 0 35 ∷ []) (Deliver 0) ∷ [], 16 ∷ [])
     -- subject 2: 11

@@ -1,6 +1,6 @@
 -- The laws of pools and configurations that other crates cite.
 pub use Rattle.engine.proofs.pools.EntryLaws.{delivered-length, delivered-none, withdrawn-none}
-pub use Rattle.engine.proofs.pools.PoolLaws.{held-delivered, held-pooled, held-taken, held-withdrawn}
+pub use Rattle.engine.proofs.pools.PoolLaws.{delivered-same, held-delivered, held-pooled, held-taken, held-withdrawn}
 pub use Rattle.engine.proofs.pools.AppendLaws.{held-appended, place-free}
 pub use Rattle.engine.proofs.configs.Good.{GoodSubject, GoodConfig}
 pub use Rattle.engine.proofs.configs.IndexFacts.{few-rows, state-there}

@@ -20,7 +20,9 @@ what the configuration then holds. `-` in the fourth column: there is no such su
 `0.1` is a reservation from sender 0 of type 1, `0.1=35` a message with content 35; `-` or nothing
 is no entry. Only Reserve has the last column; where it is missing all five are 0.
 A last column `again R S W E` has the refusal, state, word and entries that the command gets where
-the whole tape is run once more as plain coded commands, if they are not those of the row.
+the whole tape is run once more as plain coded commands, if they are not those of the row. Before it
+stands `valid V` where the command is given with `improper`, and only there: 1 if that configuration is
+valid, else 0.
 
 A command may have a word before it. Each puts a number into the byte that the engine ignores:
 
@@ -28,6 +30,8 @@ A command may have a word before it. Each puts a number into the byte that the e
     model       2: with a model that is not valid; the run goes on from the configuration before
     config      3: with a configuration that is not valid (mode 4 for subject 0); likewise
     after N     4: after a tape of N such commands, run in one call; the exit byte is N
+    improper    5: as a command value, with a configuration in which the subject of its line has mode 3 and
+                the rest is as before; the run goes on from the configuration before. A line `valid V` follows
     byte N      N: plain
 
 The last line of a tape is that of the whole tape run once more in one call: the refusal, and what the
@@ -90,7 +94,7 @@ def model(mask, subjects, limits=(), initial={}):
 # ---- The commands and the rows
 
 CODES = {"Do": 1, "Reserve": 2, "Deliver": 3, "Take": 4, "Run": 5, "Expire": 6, "Cancel": 7, "Tick": 8}
-HOW = {"value": 1, "model": 2, "config": 3}
+HOW = {"value": 1, "model": 2, "config": 3, "improper": 5}
 WHOLE = {"model": 1, "config": 2, "short": 4}
 TICK = 8
 
@@ -128,23 +132,28 @@ def entry_of(text):
 
 
 class Row:
-    """A row's command, its line of the output, and its four numbers of the last line."""
+    """A row's command, its lines of the output, and its four numbers of the last line."""
 
     def __init__(self, count, text):
         columns = [column.strip() for column in text.split("|")]
-        self.again = None
+        self.again, valid = None, []
         if columns[-1].startswith("again "):
             self.again = columns.pop()[6:]
+        if columns[-1].startswith("valid "):
+            valid = [columns.pop()]
         command, refusal, shown, waiting, pool, answer = columns + ["-", "0 0 0 0 0"][len(columns) - 4 :]
         self.command = bytes_of(command)
         code, subject = self.command[0], 0 if self.command[0] == TICK else self.command[1]
         self.again = self.again or f"{refusal} {shown}"
-        self.line = f"{count} {code} {subject} {refusal} {shown} {answer}"
+        line = f"{count} {code} {subject} {refusal} {shown} {answer}"
         if waiting != "-":
-            self.line += " " + " ".join([waiting] + [entry_of(e) for e in pool.split() if e != "-"])
+            line += " " + " ".join([waiting] + [entry_of(e) for e in pool.split() if e != "-"])
+        self.lines = [line] + valid
         sizes = [len(column.split()) for column in (refusal, shown, answer, self.again)]
         assert sizes == [1, 3, 5, 4], text
         assert waiting == "-" or len(waiting.split()) == 3, text
+        assert valid in ([], ["valid 0"], ["valid 1"]), text
+        assert (valid != []) == (self.command[3] == HOW["improper"]), text
 
 
 MODELS, TAPES = {}, {}
@@ -225,26 +234,61 @@ tape("p-expire", PRINT, """
     Expire 1    | 12 | 1 0 0 | 2 0 0
 """)
 
-# "Expire 1 after 3 ticks with a reservation waiting: mode 3; then Deliver 0: 17." Cancel withdraws
-# the reservation from that pool too; who has ended improperly stays so: "ended improperly" is the
-# first thing that Reserve looks at.
+# "Expire 1 after 3 ticks with a reservation waiting: mode 2; then Deliver 0 is accepted." It starts 1 at its
+# initial state, with word 0 and waited 0, and the message stands where the reservation stood.
 
-tape("p-improper", PRINT, """
+tape("p-end-waiting", PRINT, """
     Do 0 0 35   |  0 | 1 35 0 | 1 0 0
     Reserve 0   |  0 | 1 35 0 | 1 0 2 | -   | 2 0 0 0 0
     Tick        |  0 | 1 35 0 | 1 1 2
     Tick        |  0 | 1 35 0 | 1 2 2
     Expire 1    | 19 | 0 0 1  | 1 2 0 | 0.0
     Tick        |  0 | 1 35 0 | 1 3 2
-    Expire 1    |  0 | 1 0 1  | 3 0 0 | 0.0
-    Deliver 0   | 17 | 1 35 0 | 1 3 2
-    Take 1 0    | 12 | 1 0 1  | 3 0 0 | 0.0
+    Expire 1    |  0 | 1 0 1  | 2 0 0 | 0.0
+    Take 1 0    | 12 | 1 0 1  | 2 0 0 | 0.0
     Reserve 0   |  0 | 1 35 0 | 1 3 2 | -   | 0 0 0 0 0
+    Deliver 0   |  0 | 2 35 0 | 2 0 0
+    Expire 1    | 19 | 0 0 1  | 1 0 0 | 0.0=35
+    Take 1 0    |  0 | 1 35 0 | 2 0 0
+""")
+
+# Cancel withdraws the reservation from that pool too and starts nobody. 1 has ended properly: it gives a
+# place again, and the next Deliver starts it.
+
+tape("p-end-waiting-cancel", PRINT, """
+    Do 0 0 35   |  0 | 1 35 0 | 1 0 0
+    Reserve 0   |  0 | 1 35 0 | 1 0 2 | -   | 2 0 0 0 0
+    Tick        |  0 | 1 35 0 | 1 1 2
+    Tick        |  0 | 1 35 0 | 1 2 2
+    Tick        |  0 | 1 35 0 | 1 3 2
+    Expire 1    |  0 | 1 0 1  | 2 0 0 | 0.0
     Cancel 0    |  0 | 0 35 0 | 1 0 0
-    Take 1 0    | 12 | 1 0 0  | 3 0 0
+    Take 1 0    | 12 | 1 0 0  | 2 0 0
     Do 0 0 36   |  0 | 1 36 0 | 1 0 0
-    Reserve 0   |  0 | 1 36 0 | 1 0 0 | -   | 0 2 0 0 1
     Deliver 0   | 16 | 1 36 0 | 1 0 0
+    Reserve 0   |  0 | 1 36 0 | 1 0 2 | -   | 2 0 0 0 0
+    Take 1 0    | 12 | 1 0 1  | 2 0 0 | 0.0
+    Deliver 0   |  0 | 2 36 0 | 2 0 0
+    Take 1 0    |  0 | 1 36 0 | 2 0 0
+""")
+
+# The same with the message in the pool: mode 3. No command of 1 takes it out again: 12.
+
+tape("p-improper", PRINT, """
+    Do 0 0 35   |  0 | 1 35 0 | 1 0 0
+    Reserve 0   |  0 | 1 35 0 | 1 0 2 | -      | 2 0 0 0 0
+    Deliver 0   |  0 | 2 35 0 | 2 0 0
+    Tick        |  0 | 2 35 0 | 2 0 0
+    Tick        |  0 | 2 35 0 | 2 0 0
+    Expire 1    | 19 | 0 0 1  | 1 2 0 | 0.0=35
+    Tick        |  0 | 2 35 0 | 2 0 0
+    Expire 1    |  0 | 1 0 1  | 3 0 0 | 0.0=35
+    Take 1 0    | 12 | 1 0 1  | 3 0 0 | 0.0=35
+    Run 1       | 12 | 1 0 1  | 3 0 0 | 0.0=35
+    Expire 1    | 12 | 1 0 1  | 3 0 0 | 0.0=35
+    Cancel 1    | 12 | 1 0 1  | 3 0 0 | 0.0=35
+    Tick        |  0 | 2 35 0 | 2 0 0
+    Take 1 0    | 12 | 1 0 1  | 3 0 0 | 0.0=35
 """)
 
 # "Deliver 0 after the first command alone: 16."
@@ -568,7 +612,7 @@ tape("fields-ignored", KINDS, """
 tape("byte-ignored", KINDS, """
     byte 255 Do 0 0 5        |  0 | 1 5 0 | 1 0 0
     byte 128 Reserve 0       |  0 | 1 5 0 | 1 0 2 | - | 2 0 0 0 0
-    byte 5 Deliver 0         |  0 | 0 5 0 | 1 0 0
+    byte 6 Deliver 0         |  0 | 0 5 0 | 1 0 0
     byte 254 Take 1 0        |  0 | 0 5 0 | 1 0 0
     byte 255 Tick            |  0 | 0 5 0 | 1 1 0
     byte 9 Do 0 7 6          |  0 | 7 6 0 | 1 0 0
@@ -770,7 +814,7 @@ tape("withdraw-order", POOL, """
 """)
 
 # Exits 6 and 7 name what 0 and 2 name and have another target: "target entered", "for an end the
-# mode becomes 2 if the subject's own pool has no entry, else 3". What is taken is gone by then.
+# mode becomes 3 if a message is left in the own pool, else 2". What is taken is gone by then.
 
 tape("take-to-end", POOL, """
     Do 0 0 10    |  0 | 1 10 0 | 1 0 0
@@ -783,18 +827,56 @@ tape("take-to-end", POOL, """
     Take 1 6     | 12 | 1 10 0 | 2 0 0
 """)
 
-# "else 3": a reservation is left. 17: "a receiver ended improperly".
+# A message is left, and a reservation: mode 3. 17: "a receiver ended improperly". The message stays in the
+# pool, and Cancel withdraws the reservation alone; who has ended improperly stays so. "ended improperly" is
+# the first thing that Reserve looks at.
 
 tape("take-to-end-improper", POOL, """
+    Do 0 0 10       |  0 | 1 10 0 | 1 0 0
+    Reserve 0       |  0 | 1 10 0 | 1 0 2 | -             | 2 0 0 0 0
+    Do 2 0 20       |  0 | 1 20 0 | 1 0 0
+    Reserve 2       |  0 | 1 20 0 | 1 0 2 | -             | 2 0 0 0 0
+    Deliver 2       |  0 | 0 20 0 | 1 0 0
+    Do 2 0 21       |  0 | 1 21 0 | 1 0 0
+    Reserve 2       |  0 | 1 21 0 | 1 0 2 | -             | 2 0 0 0 0
+    Deliver 2       |  0 | 0 21 0 | 1 0 0
+    Take 1 7        |  0 | 1 20 2 | 3 0 0 | 0.0 2.0=21
+    Deliver 0       | 17 | 1 10 0 | 1 0 2
+    value Deliver 0 | 17 | 1 10 0 | 1 0 2
+    Take 1 2        | 12 | 1 20 2 | 3 0 0 | 0.0 2.0=21
+    Reserve 0       |  0 | 1 10 0 | 1 0 2 | -             | 0 0 0 0 0
+    Deliver 0       | 17 | 1 10 0 | 1 0 2
+    Cancel 0        |  0 | 0 10 0 | 1 0 0
+    Take 1 2        | 12 | 1 20 1 | 3 0 0 | 2.0=21
+    Do 0 0 11       |  0 | 1 11 0 | 1 0 0
+    Reserve 0       |  0 | 1 11 0 | 1 0 0 | -             | 0 2 0 0 1
+    Deliver 0       | 16 | 1 11 0 | 1 0 0
+    Do 2 0 22       |  0 | 1 22 0 | 1 0 0
+    Reserve 2       |  0 | 1 22 0 | 1 0 0 | -             | 0 2 0 0 1
+""")
+
+# The last message is taken and two reservations are left: mode 2. Deliver 3 starts 1; its message stands
+# behind the reservation of 0, which waits on until Deliver 0 finds 1 running.
+
+tape("take-to-end-waiting", POOL, """
     Do 0 0 10    |  0 | 1 10 0 | 1 0 0
     Reserve 0    |  0 | 1 10 0 | 1 0 2 | -             | 2 0 0 0 0
     Do 2 0 20    |  0 | 1 20 0 | 1 0 0
     Reserve 2    |  0 | 1 20 0 | 1 0 2 | -             | 2 0 0 0 0
     Deliver 2    |  0 | 0 20 0 | 1 0 0
-    Take 1 7     |  0 | 1 20 1 | 3 0 0 | 0.0
-    Deliver 0    | 17 | 1 10 0 | 1 0 2
-    Do 2 0 21    |  0 | 1 21 0 | 1 0 0
-    Reserve 2    |  0 | 1 21 0 | 1 0 0 | -             | 0 2 0 0 1
+    Do 3 0 30    |  0 | 1 30 0 | 1 0 0
+    Reserve 3    |  0 | 1 30 0 | 1 0 2 | -             | 2 0 0 0 0
+    Run 1        | 13 | 0 0 3  | 1 0 0 | 0.0 2.0=20 3.0
+    Take 1 7     |  0 | 1 20 2 | 2 0 0 | 0.0 3.0
+    Tick         |  0 | 1 10 0 | 1 1 2
+    Take 1 4     | 12 | 1 20 2 | 2 0 0 | 0.0 3.0
+    Deliver 3    |  0 | 0 30 0 | 1 0 0
+    Take 1 0     | 15 | 0 0 2  | 1 0 0 | 0.0 3.0=30
+    Tick         |  0 | 1 10 0 | 1 2 2
+    Deliver 0    |  0 | 0 10 0 | 1 0 0
+    Run 1        | 13 | 0 0 2  | 1 1 0 | 0.0=10 3.0=30
+    Take 1 4     |  0 | 0 30 1 | 1 0 0 | 0.0=10
+    Take 1 6     |  0 | 1 10 0 | 2 0 0
 """)
 
 # "16 entries a pool"; "full (a matching row has no room or the pool has 16 entries)". There is no row.
@@ -1332,14 +1414,15 @@ tape("ask-both", ASKING, """
 
 # ---- Deliver starts receivers
 
-# 0 sends to 1, asleep; 2, which can end; 3, which runs. The initial state of 1 and 2 is 1.
+# 0 sends to 1, asleep; 2, which can end; 3, which runs. 4 sends to 2. The initial state of 1 and 2 is 1.
 START = named("model-start", model(
-    0b1101,
+    0b11101,
     [
         [internal(1), send(0b1110, 0, 0, cancel=0)],
         [end(), receive((0, 0, 0))],
         [end(), internal(0, 2), receive((0, 0, 0))],
         [internal(1), receive((0, 0, 2)), internal(1)],
+        [internal(1), send(0b0100, 0, 0)],
     ],
     initial={1: 1, 2: 1},
 ))
@@ -1394,21 +1477,64 @@ tape("start-not-by-cancel", START, """
     Do 2 0 21    | 12 | 0 20 0 | 2 0 0
 """)
 
-# 2 ends while the reservation waits: improperly, so Deliver is refused 17 and starts neither 1 nor 2.
+# 2 ends while two reservations wait: properly, and the Deliver that fills one of them starts it. The other
+# waits on and becomes a message at its place. 2 then ends with messages.
 
-tape("start-not-improper", START, """
+tape("start-waiting", START, """
     Do 0 0 10    |  0 | 1 10 0 | 1 0 0
     Reserve 0    |  0 | 1 10 0 | 1 0 14 | -            | 14 0 0 0 0
-    Do 2 0 20    |  0 | 0 20 1 | 3 0 0  | 0.0
+    Do 4 0 40    |  0 | 1 40 0 | 1 0 0
+    Reserve 4    |  0 | 1 40 0 | 1 0 4  | -            | 4 0 0 0 0
+    Do 2 0 20    |  0 | 0 20 2 | 2 0 0  | 0.0 4.0
+    Tick         |  0 | 1 10 0 | 1 1 14
+    Do 2 0 21    | 12 | 0 20 2 | 2 0 0  | 0.0 4.0
+    Deliver 4    |  0 | 0 40 0 | 1 0 0
+    Run 2        | 13 | 1 0 2  | 1 0 0  | 0.0 4.0=40
+    Take 1 0     | 12 | 1 0 1  | 0 0 0  | 0.0
+    Tick         |  0 | 1 10 0 | 1 2 14
+    Deliver 0    |  0 | 0 10 0 | 1 0 0
+    Run 1        | 13 | 1 0 1  | 1 0 0  | 0.0=10
+    Run 2        | 13 | 1 0 2  | 1 1 0  | 0.0=10 4.0=40
+    Do 2 0 22    |  0 | 0 22 2 | 3 0 0  | 0.0=10 4.0=40
+""")
+
+# Cancel of one of the two: the other's reservation is still there, and its Deliver starts 2.
+
+tape("start-waiting-cancel", START, """
+    Do 0 0 10    |  0 | 1 10 0 | 1 0 0
+    Reserve 0    |  0 | 1 10 0 | 1 0 14 | -            | 14 0 0 0 0
+    Do 4 0 40    |  0 | 1 40 0 | 1 0 0
+    Reserve 4    |  0 | 1 40 0 | 1 0 4  | -            | 4 0 0 0 0
+    Do 2 0 20    |  0 | 0 20 2 | 2 0 0  | 0.0 4.0
+    Cancel 0     |  0 | 0 10 0 | 1 0 0
+    Do 2 0 21    | 12 | 0 20 1 | 2 0 0  | 4.0
+    Deliver 4    |  0 | 0 40 0 | 1 0 0
+    Run 2        | 13 | 1 0 1  | 1 0 0  | 4.0=40
+    Take 1 0     | 12 | 1 0 0  | 0 0 0
+""")
+
+# 2 holds a message of 4 when it ends, and the reservation of 0: improperly, so Deliver is refused 17 and
+# starts neither 1 nor 2. Cancel takes the reservation out; the message stays.
+
+tape("start-not-improper", START, """
+    Do 4 0 40    |  0 | 1 40 0 | 1 0 0
+    Reserve 4    |  0 | 1 40 0 | 1 0 4  | -            | 4 0 0 0 0
+    Deliver 4    |  0 | 0 40 0 | 1 0 0
+    Do 0 0 10    |  0 | 1 10 0 | 1 0 0
+    Reserve 0    |  0 | 1 10 0 | 1 0 14 | -            | 14 0 0 0 0
+    Do 2 0 20    |  0 | 0 20 2 | 3 0 0  | 4.0=40 0.0
     Deliver 0    | 17 | 1 10 0 | 1 0 14
     value Deliver 0 | 17 | 1 10 0 | 1 0 14
     Take 1 0     | 12 | 1 0 1  | 0 0 0  | 0.0
-    Do 2 0 21    | 12 | 0 20 1 | 3 0 0  | 0.0
+    Do 2 0 21    | 12 | 0 20 2 | 3 0 0  | 4.0=40 0.0
     Cancel 0     |  0 | 0 10 0 | 1 0 0
-    Do 2 0 21    | 12 | 0 20 0 | 3 0 0
+    Do 2 0 21    | 12 | 0 20 1 | 3 0 0  | 4.0=40
+    Take 1 0     | 12 | 1 0 0  | 0 0 0
     Do 0 0 11    |  0 | 1 11 0 | 1 0 0
     Reserve 0    |  0 | 1 11 0 | 1 0 10 | -            | 10 4 0 0 1
     Deliver 0    | 16 | 1 11 0 | 1 0 10
+    Do 4 0 41    |  0 | 1 41 0 | 1 0 0
+    Reserve 4    |  0 | 1 41 0 | 1 0 0  | -            | 0 4 0 0 1
 """)
 
 # ---- Waiting
@@ -1442,6 +1568,21 @@ tape("expire-can-deliver", WAIT, """
     Run 2        | 13 | 0 0 1  | 1 3 0 | 0.0=10
 """)
 
+# 20 also where 1 has ended with the reservation waiting: properly, so Deliver would be accepted and start it.
+
+tape("expire-end-waiting", WAIT, """
+    Do 0 0 10    |  0 | 1 10 0 | 1 0 0
+    Reserve 0    |  0 | 1 10 0 | 1 0 6 | -             | 6 0 0 0 0
+    Do 1 1 11    |  0 | 2 11 1 | 2 0 0 | 0.0
+    Tick         |  0 | 1 10 0 | 1 1 6
+    Expire 0     | 19 | 1 10 0 | 1 1 6
+    Tick         |  0 | 1 10 0 | 1 2 6
+    Expire 0     | 20 | 1 10 0 | 1 2 6
+    Deliver 0    |  0 | 0 10 0 | 1 0 0
+    Run 1        | 13 | 0 0 1  | 1 0 0 | 0.0=10
+    Run 2        | 13 | 0 0 1  | 1 2 0 | 0.0=10
+""")
+
 # Deliver would be refused 16: Expire is accepted. Here nothing was reserved, ..
 
 tape("expire-no-place", WAIT, """
@@ -1468,39 +1609,47 @@ tape("expire-place-missing", WAIT, """
     Run 2        | 13 | 0 20 0 | 1 2 0
 """)
 
-# .. and here Deliver would be refused 17. Both reservations are withdrawn; 1 has ended improperly for good.
+# .. and here Deliver would be refused 17: 1 held a message when it ended. Both reservations are withdrawn, the
+# messages stay; 1 has ended improperly for good.
 
 tape("expire-improper", WAIT, """
     Do 0 0 10    |  0 | 1 10 0 | 1 0 0
     Reserve 0    |  0 | 1 10 0 | 1 0 6 | -             | 6 0 0 0 0
-    Do 1 1 11    |  0 | 2 11 1 | 3 0 0 | 0.0
-    Tick         |  0 | 1 10 0 | 1 1 6
-    Expire 0     | 19 | 1 10 0 | 1 1 6
-    Tick         |  0 | 1 10 0 | 1 2 6
-    Deliver 0    | 17 | 1 10 0 | 1 2 6
-    Expire 0     |  0 | 2 10 0 | 1 0 0
-    Do 1 0 12    | 12 | 2 11 0 | 3 0 0
-    Run 2        | 13 | 0 0 0  | 1 2 0
-    Do 0 0 13    |  0 | 0 13 0 | 1 0 0
-    Do 0 0 14    |  0 | 1 14 0 | 1 0 0
-    Reserve 0    |  0 | 1 14 0 | 1 0 4 | -             | 4 2 0 0 1
+    Deliver 0    |  0 | 0 10 0 | 1 0 0
+    Do 0 0 11    |  0 | 1 11 0 | 1 0 0
+    Reserve 0    |  0 | 1 11 0 | 1 0 6 | -             | 6 0 0 0 0
+    Do 1 1 12    |  0 | 2 12 2 | 3 0 0 | 0.0=10 0.0
+    Tick         |  0 | 1 11 0 | 1 1 6
+    Expire 0     | 19 | 1 11 0 | 1 1 6
+    Tick         |  0 | 1 11 0 | 1 2 6
+    Deliver 0    | 17 | 1 11 0 | 1 2 6
+    Expire 0     |  0 | 2 11 0 | 1 0 0
+    Do 1 0 13    | 12 | 2 12 1 | 3 0 0 | 0.0=10
+    Run 2        | 13 | 0 0 1  | 1 2 0 | 0.0=10
+    Do 0 0 14    |  0 | 0 14 0 | 1 0 0
+    Do 0 0 15    |  0 | 1 15 0 | 1 0 0
+    Reserve 0    |  0 | 1 15 0 | 1 0 4 | -             | 4 2 0 0 1
 """)
 
-# 16 before 17: 2's place is missing and 1 has ended improperly. Then 2 opens: "for each receiver not in
-# the mask", so Reserve says nothing of 1, which holds its place; nothing is missing; now 17.
+# 16 before 17: 2's place is missing and 1 has ended improperly, with a message and the reservation. Then 2 opens:
+# "for each receiver not in the mask", so Reserve says nothing of 1, which holds its place; nothing is missing; now 17.
 
 tape("deliver-16-before-17", WAIT, """
-    Do 2 0 20    |  0 | 1 20 0 | 1 0 0
-    Run 2        |  0 | 0 20 0 | 1 0 0
     Do 0 0 10    |  0 | 1 10 0 | 1 0 0
-    Reserve 0    |  0 | 1 10 0 | 1 0 2 | -             | 2 0 4 0 1
-    Do 1 1 11    |  0 | 2 11 1 | 3 0 0 | 0.0
-    Deliver 0    | 16 | 1 10 0 | 1 0 2
-    Reserve 0    |  0 | 1 10 0 | 1 0 2 | -             | 0 0 4 0 1
-    Do 2 1 21    |  0 | 2 21 0 | 1 0 0
-    Run 2        |  0 | 0 21 0 | 1 0 0
-    Reserve 0    |  0 | 1 10 0 | 1 0 6 | -             | 4 0 0 0 0
-    Deliver 0    | 17 | 1 10 0 | 1 0 6
+    Reserve 0    |  0 | 1 10 0 | 1 0 6 | -             | 6 0 0 0 0
+    Deliver 0    |  0 | 0 10 0 | 1 0 0
+    Do 2 0 20    |  0 | 1 20 1 | 1 0 0 | 0.0=10
+    Run 2        |  0 | 0 20 1 | 1 0 0 | 0.0=10
+    Do 0 0 11    |  0 | 1 11 0 | 1 0 0
+    Reserve 0    |  0 | 1 11 0 | 1 0 2 | -             | 2 0 4 0 1
+    Do 1 1 12    |  0 | 2 12 2 | 3 0 0 | 0.0=10 0.0
+    Deliver 0    | 16 | 1 11 0 | 1 0 2
+    Reserve 0    |  0 | 1 11 0 | 1 0 2 | -             | 0 0 4 0 1
+    Do 2 1 21    |  0 | 2 21 1 | 1 0 0 | 0.0=10
+    Run 2        |  0 | 0 21 1 | 1 0 0 | 0.0=10
+    Reserve 0    |  0 | 1 11 0 | 1 0 6 | -             | 4 0 0 0 0
+    Deliver 0    | 17 | 1 11 0 | 1 0 6
+    Run 1        | 12 | 2 12 2 | 3 0 0 | 0.0=10 0.0
 """)
 
 # Cancel asks neither for a wait nor whether Deliver would be accepted.
@@ -1638,7 +1787,7 @@ tape("self-deliver", SELF, """
     Take 1 0     |  0 | 1 10 0 | 2 0 0
 """)
 
-# "for an end the mode becomes 2 if the subject's own pool has no entry, else 3": Deliver enters the end with
+# "for an end the mode becomes 3 if a message is left in the own pool, else 2": Deliver enters the end with
 # the message, Cancel after the reservation is withdrawn.
 
 tape("self-deliver-end", SELF, """
@@ -1707,6 +1856,80 @@ tape("self-closed", SELF, """
     Reserve 0    |  0 | 1 12 1 | 1 0 3 | 0.0           | 3 0 0 0 0
 """)
 
+# 0 sends to itself and to 1, then the end, where its timeout after 1 and its cancel lead too. 1 closes, opens,
+# receives. 2 sends to 0.
+OWN = named("model-own", model(0b111, [
+    [internal(1), send(0b011, 0, 2, duration=1, timeout=2, cancel=2), end()],
+    [close(1), open_(2), receive((0, 0, 2))],
+    [internal(1), send(0b001, 1, 0, cancel=0)],
+]))
+
+# 1 has closed, so Expire is accepted: the own reservation is withdrawn before the end is entered.
+
+tape("self-expire-end", OWN, """
+    Run 1        |  0 | 1 0 0  | 1 0 0
+    Do 0 0 10    |  0 | 1 10 0 | 1 0 0
+    Reserve 0    |  0 | 1 10 1 | 1 0 1 | 0.0           | 1 0 2 0 1
+    Tick         |  0 | 1 10 1 | 1 1 1 | 0.0
+    Expire 0     |  0 | 2 10 0 | 2 0 0
+    Do 0 0 11    | 12 | 2 10 0 | 2 0 0
+""")
+
+# With the reservation of 2 in the pool too: it stays and the end is proper; Deliver 2 starts 0 again.
+
+tape("self-expire-end-waiting", OWN, """
+    Run 1        |  0 | 1 0 0  | 1 0 0
+    Do 2 0 20    |  0 | 1 20 0 | 1 0 0
+    Reserve 2    |  0 | 1 20 0 | 1 0 1 | -             | 1 0 0 0 0
+    Do 0 0 10    |  0 | 1 10 1 | 1 0 0 | 2.1
+    Reserve 0    |  0 | 1 10 2 | 1 0 1 | 2.1 0.0       | 1 0 2 0 1
+    Tick         |  0 | 1 10 2 | 1 1 1 | 2.1 0.0
+    Expire 0     |  0 | 2 10 1 | 2 0 0 | 2.1
+    Deliver 2    |  0 | 0 20 0 | 1 0 0
+    Run 0        | 13 | 0 0 1  | 1 0 0 | 2.1=20
+""")
+
+# The same with Cancel. The own reservations go from both pools.
+
+tape("self-cancel-end-waiting", OWN, """
+    Do 2 0 20    |  0 | 1 20 0 | 1 0 0
+    Reserve 2    |  0 | 1 20 0 | 1 0 1 | -             | 1 0 0 0 0
+    Do 0 0 10    |  0 | 1 10 1 | 1 0 0 | 2.1
+    Reserve 0    |  0 | 1 10 2 | 1 0 3 | 2.1 0.0       | 3 0 0 0 0
+    Run 1        |  0 | 1 0 1  | 1 0 0 | 0.0
+    Cancel 0     |  0 | 2 10 1 | 2 0 0 | 2.1
+    Run 1        |  0 | 2 0 0  | 1 0 0
+    Deliver 2    |  0 | 0 20 0 | 1 0 0
+    Run 0        | 13 | 0 0 1  | 1 0 0 | 2.1=20
+""")
+
+# With a message of 2 in the pool: the own reservation is withdrawn, the message is left, mode 3.
+
+tape("self-expire-end-message", OWN, """
+    Run 1        |  0 | 1 0 0  | 1 0 0
+    Do 2 0 20    |  0 | 1 20 0 | 1 0 0
+    Reserve 2    |  0 | 1 20 0 | 1 0 1 | -             | 1 0 0 0 0
+    Deliver 2    |  0 | 0 20 0 | 1 0 0
+    Do 0 0 10    |  0 | 1 10 1 | 1 0 0 | 2.1=20
+    Reserve 0    |  0 | 1 10 2 | 1 0 1 | 2.1=20 0.0    | 1 0 2 0 1
+    Tick         |  0 | 1 10 2 | 1 1 1 | 2.1=20 0.0
+    Expire 0     |  0 | 2 10 1 | 3 0 0 | 2.1=20
+""")
+
+# Deliver: the own message is left, behind the reservation of 2. Mode 3, and Deliver 2 is refused 17.
+
+tape("self-deliver-end-waiting", OWN, """
+    Do 2 0 20    |  0 | 1 20 0 | 1 0 0
+    Reserve 2    |  0 | 1 20 0 | 1 0 1 | -             | 1 0 0 0 0
+    Do 0 0 10    |  0 | 1 10 1 | 1 0 0 | 2.1
+    Reserve 0    |  0 | 1 10 2 | 1 0 3 | 2.1 0.0       | 3 0 0 0 0
+    Deliver 0    |  0 | 2 10 2 | 3 0 0 | 2.1 0.0=10
+    Deliver 2    | 17 | 1 20 0 | 1 0 1
+    Cancel 2     |  0 | 0 20 0 | 1 0 0
+    Run 0        | 12 | 2 10 1 | 3 0 0 | 0.0=10
+    Run 1        |  0 | 1 0 1  | 1 0 0 | 0.0=10
+""")
+
 # ---- Ends
 
 # Each of 0 to 6 reaches its end 1 by another command: 0 Do; 1 Deliver; 2 Take; 3, 4, 5 Run (close, open,
@@ -1722,7 +1945,7 @@ ENDS = named("model-ends", model(0b11111111, [
     [internal(1, 2), send(0b01111111, 0, 0), receive((1, 1, 0))],
 ]))
 
-# "for an end the mode becomes 2 if the subject's own pool has no entry, else 3": for each command. No entry:
+# "for an end the mode becomes 3 if a message is left in the own pool, else 2": for each command. No entry:
 
 tape("end-no-entry", ENDS, """
     Do 0 0 5     |  0 | 1 5 0  | 2 0 0
@@ -1733,7 +1956,7 @@ tape("end-no-entry", ENDS, """
     Run 5        |  0 | 1 0 0  | 2 0 0
     Tick         |  0 | 1 5 0  | 2 0 0
     Expire 6     |  0 | 1 0 0  | 2 0 0
-    # 3 has closed; the others start again
+    # 3 has closed; the others give a place again
     Do 7 0 70    |  0 | 1 70 1 | 1 0 0   | 1.1=0
     Reserve 7    |  0 | 1 70 1 | 1 0 119 | 1.1=0       | 119 0 8 0 1
     Cancel 7     | 18 | 1 70 1 | 1 0 119 | 1.1=0
@@ -1775,20 +1998,64 @@ tape("end-messages", ENDS, """
     Reserve 7    |  0 | 1 72 1 | 1 0 0   | 1.1=0       | 0 127 0 0 7
 """)
 
-# Reservations are entries too:
+# Reservations alone: proper for each command. Deliver starts them all again at their initial state, with word 0; 3
+# has closed, which "stops no Deliver".
 
 tape("end-reservations", ENDS, """
     Do 7 0 70    |  0 | 1 70 0 | 1 0 0
     Reserve 7    |  0 | 1 70 0 | 1 0 127 | -           | 127 0 0 0 0
-    Do 0 0 5     |  0 | 1 5 1  | 3 0 0   | 7.0
-    Run 3        |  0 | 1 0 1  | 3 0 0   | 7.0
-    Run 4        |  0 | 1 0 1  | 3 0 0   | 7.0
-    Run 5        |  0 | 1 0 1  | 3 0 0   | 7.0
-    Cancel 6     |  0 | 1 0 1  | 3 0 0   | 7.0
-    Deliver 7    | 17 | 1 70 0 | 1 0 127
-    Reserve 7    |  0 | 1 70 0 | 1 0 127 | -           | 0 0 0 0 0
-    Deliver 7    | 17 | 1 70 0 | 1 0 127
+    Do 0 0 5     |  0 | 1 5 1  | 2 0 0   | 7.0
+    Reserve 1    |  0 | 0 0 1  | 1 0 128 | 7.0         | 128 0 0 0 0
+    Deliver 1    |  0 | 1 0 1  | 2 0 0   | 7.0
+    Run 3        |  0 | 1 0 1  | 2 0 0   | 7.0
+    Run 4        |  0 | 1 0 1  | 2 0 0   | 7.0
+    Run 5        |  0 | 1 0 1  | 2 0 0   | 7.0
+    Cancel 6     |  0 | 1 0 1  | 2 0 0   | 7.0
     Take 2 0     | 15 | 0 0 1  | 1 0 0   | 7.0
+    Reserve 7    |  0 | 1 70 1 | 1 0 127 | 1.1=0       | 0 0 0 0 0
+    Deliver 7    |  0 | 0 70 1 | 1 0 0   | 1.1=0
+    Run 0        | 13 | 0 0 1  | 1 0 0   | 7.0=70
+    Run 1        | 13 | 0 0 1  | 1 0 0   | 7.0=70
+    Do 3 0 0     | 13 | 0 0 1  | 1 0 0   | 7.0=70
+    Do 4 0 0     | 13 | 0 0 1  | 1 0 0   | 7.0=70
+    Do 5 0 0     | 13 | 0 0 1  | 1 0 0   | 7.0=70
+    Run 6        | 13 | 0 0 1  | 1 0 0   | 7.0=70
+    Take 2 0     |  0 | 1 70 0 | 2 0 0
+""")
+
+# The same for Expire.
+
+tape("end-reservation-expire", ENDS, """
+    Do 7 0 70    |  0 | 1 70 0 | 1 0 0
+    Reserve 7    |  0 | 1 70 0 | 1 0 127 | -           | 127 0 0 0 0
+    Tick         |  0 | 0 0 1  | 1 1 0   | 7.0
+    Expire 6     |  0 | 1 0 1  | 2 0 0   | 7.0
+    Deliver 7    |  0 | 0 70 0 | 1 0 0
+    Expire 6     | 19 | 0 0 1  | 1 0 0   | 7.0=70
+""")
+
+# A message and a reservation: improper, and Deliver is refused 17. Only Take has removed the message when the end is
+# entered: 2 ends properly, and a refused Deliver does not start it.
+
+tape("end-both", ENDS, """
+    Do 7 0 70    |  0 | 1 70 0 | 1 0 0
+    Reserve 7    |  0 | 1 70 0 | 1 0 127 | -           | 127 0 0 0 0
+    Deliver 7    |  0 | 0 70 0 | 1 0 0
+    Do 7 0 71    |  0 | 1 71 0 | 1 0 0
+    Reserve 7    |  0 | 1 71 0 | 1 0 127 | -           | 127 0 0 0 0
+    Take 2 0     |  0 | 1 70 1 | 2 0 0   | 7.0
+    Do 0 0 5     |  0 | 1 5 2  | 3 0 0   | 7.0=70 7.0
+    Reserve 1    |  0 | 0 0 2  | 1 0 128 | 7.0=70 7.0  | 128 0 0 0 0
+    Deliver 1    |  0 | 1 0 2  | 3 0 0   | 7.0=70 7.0
+    Run 3        |  0 | 1 0 2  | 3 0 0   | 7.0=70 7.0
+    Run 4        |  0 | 1 0 2  | 3 0 0   | 7.0=70 7.0
+    Run 5        |  0 | 1 0 2  | 3 0 0   | 7.0=70 7.0
+    Cancel 6     |  0 | 1 0 2  | 3 0 0   | 7.0=70 7.0
+    Deliver 7    | 17 | 1 71 1 | 1 0 127 | 1.1=0
+    Reserve 7    |  0 | 1 71 1 | 1 0 127 | 1.1=0       | 0 0 0 0 0
+    Deliver 7    | 17 | 1 71 1 | 1 0 127 | 1.1=0
+    Take 2 0     | 12 | 1 70 1 | 2 0 0   | 7.0
+    Do 0 0 6     | 12 | 1 5 2  | 3 0 0   | 7.0=70 7.0
 """)
 
 # A word 0 that was delivered is a message all the same: Take hands it over.
@@ -1799,6 +2066,85 @@ tape("word-0", ENDS, """
     Take 7 0     | 15 | 2 70 1 | 1 0 0   | 1.1
     Deliver 1    |  0 | 1 0 0  | 2 0 0
     Take 7 0     |  0 | 0 0 0  | 1 0 0
+""")
+
+# Left in the pool at the end it makes the end improper.
+
+tape("end-word-0", ENDS, """
+    Do 7 0 0     |  0 | 1 0 0  | 1 0 0
+    Reserve 7    |  0 | 1 0 0  | 1 0 127 | -           | 127 0 0 0 0
+    Deliver 7    |  0 | 0 0 0  | 1 0 0
+    Do 0 0 5     |  0 | 1 5 1  | 3 0 0   | 7.0=0
+    Take 2 0     |  0 | 1 0 0  | 2 0 0
+    Cancel 6     |  0 | 1 0 1  | 3 0 0   | 7.0=0
+""")
+
+# ---- Who ended improperly holds a message
+
+# 10: a configuration in mode 3 without a message is not valid, for each command. 0 has ended with nothing in its pool:
+
+tape("improper-no-entry", ENDS, """
+    Do 0 0 5            |  0 | 1 5 0  | 2 0 0
+    improper Do 0 0 6   | 10 | 1 5 0  | 3 0 0 | valid 0 | again 12 1 5 0
+    improper Reserve 0  | 10 | 1 5 0  | 3 0 0 | valid 0 | again 12 1 5 0
+    improper Deliver 0  | 10 | 1 5 0  | 3 0 0 | valid 0 | again 12 1 5 0
+    improper Take 0 0   | 10 | 1 5 0  | 3 0 0 | valid 0 | again 12 1 5 0
+    improper Run 0      | 10 | 1 5 0  | 3 0 0 | valid 0 | again 12 1 5 0
+    improper Expire 0   | 10 | 1 5 0  | 3 0 0 | valid 0 | again 12 1 5 0
+    improper Cancel 0   | 10 | 1 5 0  | 3 0 0 | valid 0 | again 12 1 5 0
+    improper Tick       | 10 | 1 5 0  | 3 0 0 | valid 0 | again 0 1 5 0
+    Do 0 0 6            | 12 | 1 5 0  | 2 0 0
+""")
+
+# 2 has ended with two reservations in its pool, which are no messages. From the configuration before Deliver starts it.
+
+tape("improper-reservations", START, """
+    Do 0 0 10           |  0 | 1 10 0 | 1 0 0
+    Reserve 0           |  0 | 1 10 0 | 1 0 14 | -       | 14 0 0 0 0
+    Do 4 0 40           |  0 | 1 40 0 | 1 0 0
+    Reserve 4           |  0 | 1 40 0 | 1 0 4  | -       | 4 0 0 0 0
+    Do 2 0 20           |  0 | 0 20 2 | 2 0 0  | 0.0 4.0
+    improper Do 2 0 21  | 10 | 0 20 2 | 3 0 0  | 0.0 4.0 | valid 0 | again 12 0 20 2
+    improper Cancel 2   | 10 | 0 20 2 | 3 0 0  | 0.0 4.0 | valid 0 | again 12 0 20 2
+    Deliver 4           |  0 | 0 40 0 | 1 0 0
+    Run 2               | 13 | 1 0 2  | 1 0 0  | 0.0 4.0=40
+""")
+
+# 0 has ended with a message in its pool, 3 with a reservation too: mode 3 is what they have. 12, and Tick is accepted.
+
+tape("improper-message", ENDS, """
+    Do 7 0 70           |  0 | 1 70 0 | 1 0 0
+    Reserve 7           |  0 | 1 70 0 | 1 0 127 | -      | 127 0 0 0 0
+    Deliver 7           |  0 | 0 70 0 | 1 0 0
+    Do 0 0 5            |  0 | 1 5 1  | 3 0 0   | 7.0=70
+    improper Do 0 0 6   | 12 | 1 5 1  | 3 0 0   | 7.0=70 | valid 1
+    improper Deliver 0  | 12 | 1 5 1  | 3 0 0   | 7.0=70 | valid 1
+    improper Tick       |  0 | 1 5 1  | 3 0 0   | 7.0=70 | valid 1
+    Do 7 0 71           |  0 | 1 71 0 | 1 0 0
+    Reserve 7           |  0 | 1 71 0 | 1 0 126 | -      | 126 1 0 0 1
+    Run 3               |  0 | 1 0 2  | 3 0 0   | 7.0=70 7.0
+    improper Run 3      | 12 | 1 0 2  | 3 0 0   | 7.0=70 7.0 | valid 1
+""")
+
+# A message is not all: "ended always is" at an end. 0 and 1 run and hold one. Here `improper Tick` is of subject 0.
+
+tape("improper-not-at-end", ENDS, """
+    Do 7 0 70           |  0 | 1 70 0 | 1 0 0
+    Reserve 7           |  0 | 1 70 0 | 1 0 127 | -      | 127 0 0 0 0
+    Deliver 7           |  0 | 0 70 0 | 1 0 0
+    improper Run 0      | 10 | 0 0 1  | 3 0 0   | 7.0=70 | valid 0 | again 13 0 0 1
+    improper Deliver 1  | 10 | 0 0 1  | 3 0 0   | 7.0=70 | valid 0 | again 16 0 0 1
+    improper Tick       | 10 | 0 0 1  | 3 0 0   | 7.0=70 | valid 0 | again 0 0 0 1
+    Run 0               | 13 | 0 0 1  | 1 0 0   | 7.0=70
+""")
+
+# 2 sleeps; there is no 3, and "subjects from n up .. are all zero": 10 before 11.
+
+tape("improper-asleep", KINDS, """
+    improper Do 2 0 6   | 10 | 0 0 0  | 3 0 0 | valid 0 | again 12 0 0 0
+    improper Do 3 0 6   | 10 | 0 0 0  | -     | valid 0 | again 11 0 0 0
+    Do 2 0 6            | 12 | 0 0 0  | 0 0 0
+    Do 3 0 6            | 11 | 0 0 0  | -
 """)
 
 # ---- Sixteen subjects
@@ -1854,11 +2200,14 @@ tape("sixteen-cancel", SIXTEEN, """
 # Sixteen senders to 15, which is one of them: 16 reservations fill the pool.
 CROWD = named("model-crowd", model(0xFFFF, [[internal(1), send(0x8000, 0, 0, cancel=0)]] * 16))
 
+# 0 to 14 reserve, one after the other.
+FIFTEEN = "".join(f"""
+    Do {s} 0 {s}  |  0 | 1 {s} 0 | 1 0 0
+    Reserve {s}   |  0 | 1 {s} 0 | 1 0 32768 | - | 32768 0 0 0 0""" for s in range(15)).lstrip("\n")
+
 # "16 entries a pool": all reservations, then some messages; the order stays.
 
-tape("crowd", CROWD, "".join(f"""
-    Do {s} 0 {s}  |  0 | 1 {s} 0 | 1 0 0
-    Reserve {s}   |  0 | 1 {s} 0 | 1 0 32768 | - | 32768 0 0 0 0""" for s in range(15)).lstrip("\n") + """
+tape("crowd", CROWD, FIFTEEN + """
     Do 15 0 15    |  0 | 1 15 15 | 1 0 0     | 0.0 1.0 2.0 3.0 4.0 5.0 6.0 7.0 8.0 9.0 10.0 11.0 12.0 13.0 14.0
     Reserve 15    |  0 | 1 15 16 | 1 0 32768 | 0.0 1.0 2.0 3.0 4.0 5.0 6.0 7.0 8.0 9.0 10.0 11.0 12.0 13.0 \
         14.0 15.0 | 32768 0 0 0 0
@@ -1875,6 +2224,39 @@ tape("crowd", CROWD, "".join(f"""
     Take 15 0     | 13 | 0 15 14 | 1 0 0     | 0.0=0 2.0 3.0 4.0 5.0 6.0 8.0 9.0 10.0 11.0 12.0 13.0 14.0=14 15.0=15
 """)
 
+# The same, but 15 can send to itself (exit 0) or end (exit 1).
+CROWD_END = named("model-crowd-end", model(
+    0xFFFF,
+    [[internal(1), send(0x8000, 0, 0, cancel=0)]] * 15 + [[internal(1, 2), send(0x8000, 1, 0), end()]],
+))
+
+# Fifteen reservations and no message: 15 ends properly, and the Deliver that fills the last one starts it. Then the
+# message is the last entry: improper.
+
+tape("crowd-end-waiting", CROWD_END, FIFTEEN + """
+    Do 15 1 99    |  0 | 2 99 15 | 2 0 0     | 0.0 1.0 2.0 3.0 4.0 5.0 6.0 7.0 8.0 9.0 10.0 11.0 12.0 13.0 14.0
+    Deliver 14    |  0 | 0 14 0  | 1 0 0
+    Run 15        | 13 | 0 0 15  | 1 0 0     | 0.0 1.0 2.0 3.0 4.0 5.0 6.0 7.0 8.0 9.0 10.0 11.0 12.0 13.0 14.0=14
+    Do 15 1 98    |  0 | 2 98 15 | 3 0 0     | 0.0 1.0 2.0 3.0 4.0 5.0 6.0 7.0 8.0 9.0 10.0 11.0 12.0 13.0 14.0=14
+    Deliver 0     | 17 | 1 0 0   | 1 0 32768
+""")
+
+# Sixteen entries, of which the last is 15's own message: improper.
+
+tape("crowd-end-full", CROWD_END, FIFTEEN + """
+    Do 15 0 99    |  0 | 1 99 15 | 1 0 0     | 0.0 1.0 2.0 3.0 4.0 5.0 6.0 7.0 8.0 9.0 10.0 11.0 12.0 13.0 14.0
+    Reserve 15    |  0 | 1 99 16 | 1 0 32768 | 0.0 1.0 2.0 3.0 4.0 5.0 6.0 7.0 8.0 9.0 10.0 11.0 12.0 13.0 \
+        14.0 15.1 | 32768 0 0 0 0
+    Deliver 15    |  0 | 0 99 16 | 1 0 0     | 0.0 1.0 2.0 3.0 4.0 5.0 6.0 7.0 8.0 9.0 10.0 11.0 12.0 13.0 \
+        14.0 15.1=99
+    Do 15 1 98    |  0 | 2 98 16 | 3 0 0     | 0.0 1.0 2.0 3.0 4.0 5.0 6.0 7.0 8.0 9.0 10.0 11.0 12.0 13.0 \
+        14.0 15.1=99
+    Deliver 7     | 17 | 1 7 0   | 1 0 32768
+    Cancel 7      |  0 | 0 7 0   | 1 0 0
+    Do 7 0 77     |  0 | 1 77 0  | 1 0 0
+    Reserve 7     |  0 | 1 77 0  | 1 0 0     | - | 0 32768 0 0 1
+    Run 15        | 12 | 2 98 15 | 3 0 0     | 0.0 1.0 2.0 3.0 4.0 5.0 6.0 8.0 9.0 10.0 11.0 12.0 13.0 14.0 15.1=99
+""")
 
 # ---- A small orchard: two probes and a scheduler
 
@@ -1957,7 +2339,7 @@ def main():
         assert len(rows) <= 512, "more than the program has room for"
         (data / name).write_bytes(b"".join(row.command for row in rows))
         names += [model, name]
-        lines += [name] + [row.line for row in rows] + [last]
+        lines += [name] + [line for row in rows for line in row.lines] + [last]
     (data / "list").write_text("".join(f"{name}\n" for name in names))
     (crate / "stdout").write_text("".join(f"{line}\n" for line in lines))
 

@@ -3,12 +3,14 @@
 //
 // A tape is a row of coded commands of eight bytes. The fourth byte, which the engine ignores, says here how the command
 // is given: 1 as a command, 2 with a model that is not valid, 3 with a configuration that is not valid, 4 after a tape of
-// as many such commands as the exit byte says, any other coded. After 2 and 3 the run goes on from the configuration before.
+// as many such commands as the exit byte says, 5 as a command with a configuration in which its subject has ended improperly,
+// any other coded. After 2, 3 and 5 the run goes on from the configuration before.
 //
 // For each tape its name, a line for each command, and a line with what the whole tape gives in one call: the refusal, and what
 // the buffer then holds. It has 7 at each place before, and just enough places. The fourth byte of the first command says how
 // the whole tape is given, if it is 16 or a little more: 1 more with a model that is not valid, 2 more with a configuration
-// that is not valid, 4 more with a buffer of one place less.
+// that is not valid, 4 more with a buffer of one place less. After the line of a command given by 5 comes one more: `valid 1`
+// if the configuration given is valid, else `valid 0`.
 ghost use Prim.Native.Nat.{_+_, _*_, _/_, _≤_};
 ghost use lib.ListN.{length};
 use engine::Answer;
@@ -145,6 +147,14 @@ fn write_line(m: Model, count: u64, b: [u8; 8], stepped: Stepped) {
     io::write_all(STDOUT_FILENO, b"\n");
 }
 
+fn write_valid(valid: bool) {
+    if valid {
+        io::write_all(STDOUT_FILENO, b"valid 1\n");
+    } else {
+        io::write_all(STDOUT_FILENO, b"valid 0\n");
+    }
+}
+
 // ---- Giving a command
 
 // The number of four bytes, the low one first.
@@ -184,6 +194,15 @@ fn spoilt(mut c: Config) -> Config {
     let mut subject = c.subjects[0];
     subject.mode = 4;
     c.subjects[0] = subject;
+    c
+}
+
+// The subject at a number, taken round from 16 on, has mode 3; the rest is as it was.
+fn ended_improperly(mut c: Config, s: u8) -> Config {
+    let at = (s % 16) as usize;
+    let mut subject = c.subjects[at];
+    subject.mode = 3;
+    c.subjects[at] = subject;
     c
 }
 
@@ -230,6 +249,14 @@ fn given(m: Model, c: Config, b: [u8; 8]) -> Stepped {
     engine::step_coded(m, c, b)
 }
 
+// Gives a command where its subject has ended improperly: its line, and whether such a configuration is valid.
+fn give_improper(m: Model, c: Config, count: u64, b: [u8; 8]) {
+    let ended = ended_improperly(c, shown(b));
+    let stepped = engine::step(m, ended, command_of(b));
+    write_line(m, count, b, stepped);
+    write_valid(engine::is_valid(m, ended));
+}
+
 // Gives a command and writes its line. The configuration from which the run goes on.
 fn give(m: Model, c: Config, count: u64, b: [u8; 8]) -> Config {
     if b[3] == 2 {
@@ -241,6 +268,10 @@ fn give(m: Model, c: Config, count: u64, b: [u8; 8]) -> Config {
     if b[3] == 3 {
         let stepped = engine::step_coded(m, spoilt(c), b);
         write_line(m, count, b, stepped);
+        return c;
+    }
+    if b[3] == 5 {
+        give_improper(m, c, count, b);
         return c;
     }
     let stepped = given(m, c, b);

@@ -215,7 +215,7 @@ deliver-wakes m c r s i h w fine =
     let receives = fields-here m (a .model) c g s (a .there) .receivers r j (in-mask m c g r s i lr (a .there) w) in
     let started = proper-starts (bit (hereOf m c s .receivers) r) (subjectAt m r .initial) s (at c s .word) (at c r) receives proper in
     let is = ap (λ (x : Stepped). at (x .config) r) (accepted-is m c (Deliver s) fine)
-        ∙ sweep-other (deliveredTo (m .subjects) (hereOf m c s) s (at c s .word)) c s (exitAt (hereOf m c s) 0 .target) (endsAt m c (Deliver s)) r j apart in
+    ∙ sweep-other (deliveredTo (m .subjects) (hereOf m c s) s (at c s .word)) c s (exitAt (hereOf m c s) 0 .target) (endsAt m c (Deliver s)) r j apart in
     record {
       runs = ap (λ (x : Subject). x .mode) is ∙ started .runs;
       initial = ap (λ (x : Subject). x .state) is ∙ started .state;

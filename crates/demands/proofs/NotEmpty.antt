@@ -9,12 +9,13 @@ use Rattle.model_promises.specs.Samples.{modelP}
 use Rattle.model_promises.proofs.Worked.{p-held, p-valid}
 use Rattle.engine.specs.configs.Answers.{refusalOf}
 use Rattle.engine.specs.configs.Fresh.{freshConfig}
-use Rattle.engine.specs.configs.Subjects.{endedImproperly, hereOf}
+use Rattle.engine.specs.configs.Subjects.{endedImproperly, at, hereOf}
 use Rattle.engine.specs.Steps.{acted}
 use Rattle.engine.specs.declared.Command.{Command}
 use Rattle.engine.specs.declared.Command.the-variants.{Do, Reserve, Deliver, Take, Run, Expire, Cancel, Tick}
 use Rattle.demands.specs.Due.{CanBeDelivered, TimeIsOver, InSend}
-use Rattle.demands.specs.Met.{sent, due, late, RunsIn, HypothesesMet}
+use Rattle.demands.specs.Ends.{WaitsAt}
+use Rattle.demands.specs.Met.{sent, due, late, endsWithMessage, endsWithReservation, RunsIn, HypothesesMet}
 use Rattle.demands.specs.Orchard.{orchard}
 use Rattle.demands.specs.Shares.{atLast, Asks, MayHave}
 use Rattle.demands.proofs.Along.{last-valid}
@@ -60,6 +61,9 @@ hypotheses-met =
       lateInSend = at-last orchard orchard-valid (λ c. InSend orchard c 0) late (record { there = ltb-true _ _ refl; runs = refl; sends = refl });
       lateOver = at-last orchard orchard-valid (λ c. TimeIsOver orchard c 0) late (record { target = eqb-false _ any refl; late = leb-true _ _ refl });
       lateCannot = at-last orchard orchard-valid (λ c. ¬ CanBeDelivered orchard c 0) late (λ d. not-both (d .placed 1 refl) refl);
+      endedImproper = at-last modelP p-valid (λ c. at c 1 .mode ≡ endedImproperly) endsWithMessage refl;
+      waitedFor = at-last modelP p-valid (λ c. WaitsAt c 1 0 0) endsWithReservation (record { proper = refl; there = ltb-true _ _ refl; reserved = refl });
+      wakes = refusal-next modelP p-valid endsWithReservation (Deliver 0) refl;
       does = refusal-next modelP p-valid [] (Do 0 0 35) refl;
       reserves = refusal-next modelP p-valid (Do 0 0 35 ∷ []) (Reserve 0) refl;
       delivers = refusal-next modelP p-valid (Do 0 0 35 ∷ Reserve 0 ∷ []) (Deliver 0) refl;

@@ -11,13 +11,14 @@ use Rattle.engine.specs.pools.Sizes.{mostEntries}
 use Rattle.engine.specs.configs.Answers.{refusalOf, isYes}
 use Rattle.engine.specs.configs.Fresh.{freshOf}
 use Rattle.engine.specs.configs.Shares.{shareOf}
-use Rattle.engine.specs.configs.Subjects.{hereOf}
+use Rattle.engine.specs.configs.Subjects.{endedImproperly, at, hereOf}
 use Rattle.engine.specs.commands.Codes.{bytesOf}
 use Rattle.engine.specs.Tapes.{ran}
 use Rattle.engine.specs.declared.Command.{Command}
 use Rattle.engine.specs.declared.Command.the-variants.{Do, Reserve, Deliver, Take, Run, Expire, Cancel, Tick}
 use Rattle.engine_promises.specs.Runs.{commandsOf}
 use Rattle.demands.specs.Due.{stepRefusal, CanBeDelivered, TimeIsOver, InSend}
+use Rattle.demands.specs.Ends.{WaitsAt}
 use Rattle.demands.specs.Marked.{input}
 use Rattle.demands.specs.Orchard.{orchard}
 use Rattle.demands.specs.Shares.{atLast, Asks, MayHave, ofProbe}
@@ -33,6 +34,13 @@ due = Reserve 0 ∷ Tick ∷ Tick ∷ []
 -- its time is over without a place
 abbrev pub late : List Command
 late = Tick ∷ Tick ∷ []
+
+-- subject 1 of model P ends with a message left, or with a reservation only
+abbrev pub endsWithMessage : List Command
+endsWithMessage = Do 0 0 35 ∷ Reserve 0 ∷ Deliver 0 ∷ Tick ∷ Tick ∷ Tick ∷ Expire 1 ∷ []
+
+abbrev pub endsWithReservation : List Command
+endsWithReservation = Do 0 0 35 ∷ Reserve 0 ∷ Tick ∷ Tick ∷ Tick ∷ Expire 1 ∷ []
 
 -- after some commands the valve is in a state of this kind, and Run is accepted
 pub record RunsIn (kind : ℕ) (before : List Command) : Type 0 where
@@ -66,6 +74,10 @@ pub record HypothesesMet : Type 0 where
   pub lateInSend : InSend orchard (atLast orchard late) 0
   pub lateOver : TimeIsOver orchard (atLast orchard late) 0
   pub lateCannot : ¬ CanBeDelivered orchard (atLast orchard late) 0
+  -- a subject that ended improperly, and one that ended properly and is waited for, with a Deliver that is accepted
+  pub endedImproper : at (atLast modelP endsWithMessage) 1 .mode ≡ endedImproperly
+  pub waitedFor : WaitsAt (atLast modelP endsWithReservation) 1 0 0
+  pub wakes : stepRefusal modelP (atLast modelP endsWithReservation) (Deliver 0) ≡ 0
   -- each command is accepted after some commands from a fresh start: Run in the orchard, in each of its kinds of states
   pub does : stepRefusal modelP (atLast modelP []) (Do 0 0 35) ≡ 0
   pub reserves : stepRefusal modelP (atLast modelP (Do 0 0 35 ∷ [])) (Reserve 0) ≡ 0

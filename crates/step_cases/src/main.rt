@@ -6,11 +6,11 @@
 // as many such commands as the exit byte says, 5 as a command with a configuration in which its subject has ended improperly,
 // any other coded. After 2, 3 and 5 the run goes on from the configuration before.
 //
-// For each tape its name, a line for each command, and a line with what the whole tape gives in one call: the refusal, and what
-// the buffer then holds. It has 7 at each place before, and just enough places. The fourth byte of the first command says how
-// the whole tape is given, if it is 16 or a little more: 1 more with a model that is not valid, 2 more with a configuration
-// that is not valid, 4 more with a buffer of one place less. After the line of a command given by 5 comes one more: `valid 1`
-// if the configuration given is valid, else `valid 0`.
+// For each tape its name, a line for each command, after one given by 5 also `valid 1` or `valid 0` for whether that
+// configuration is valid, and a line with what the whole tape gives in one call: the refusal, and what the buffer then holds. It
+// has 7 at each place before, and just enough places. The fourth byte of the first command says how the whole tape is given, if
+// it is 16 or a little more: 1 more with a model that is not valid, 2 more with a configuration that is not valid, 4 more with a
+// buffer of one place less.
 ghost use Prim.Native.Nat.{_+_, _*_, _/_, _≤_};
 ghost use lib.ListN.{length};
 use engine::Answer;

@@ -103,11 +103,13 @@ fn a_damaged_file_is_refused_or_is_the_file_of_its_model() {
     assert!(refusals.iter().all(|c| *c > 100), "{refusals:?}");
 }
 
-/// How often each command was accepted, each refusal given, and each kind of Reserve answered.
+/// How often each command was accepted, each refusal given, an end entered with nothing, with reservations only or with a
+/// message left, and each kind of Reserve answered.
 #[derive(Debug, Default)]
 struct Counts {
     accepted: [usize; 9],
     refusals: [usize; 21],
+    ends: [usize; 3],
     placed: usize,
     improper: usize,
     closed: usize,
@@ -138,6 +140,33 @@ impl Counts {
     }
 }
 
+/// The messages that a subject holds.
+fn messages(actor: &Actor) -> Vec<Entry> {
+    let used = actor.pool.used().iter();
+    used.filter(|e| e.message).copied().collect()
+}
+
+/// Looks at who ended by a step, who had ended improperly before it, and who started again.
+fn look_at_ends(before: &Config, after: &Config, counts: &mut Counts) {
+    for (old, new) in before.subjects.iter().zip(&after.subjects) {
+        match (old.mode, new.mode) {
+            (RUNNING, ENDED | ENDED_IMPROPERLY) => {
+                let message = !messages(new).is_empty();
+                assert_eq!(new.mode == ENDED_IMPROPERLY, message, "{before:?}");
+                let left = usize::from(new.pool.count != 0) + usize::from(message);
+                counts.ends[left] += 1;
+            }
+            (ENDED_IMPROPERLY, mode) => {
+                assert_eq!(mode, ENDED_IMPROPERLY, "{before:?}");
+                assert_eq!(messages(new), messages(old));
+                assert!(!messages(new).is_empty());
+            }
+            (ENDED, RUNNING) => assert!(!messages(new).is_empty(), "{before:?}"),
+            _ => {}
+        }
+    }
+}
+
 /// Steps through a tape one command at a time and looks at every configuration.
 fn follow(model: &Model, tape: &[u8], counts: &mut Counts) {
     let mut config = fresh(model).1;
@@ -147,6 +176,7 @@ fn follow(model: &Model, tape: &[u8], counts: &mut Counts) {
         let before = config;
         let answer = step_coded(model, &mut config, piece.try_into().unwrap());
         counts.add(piece[0], &answer);
+        look_at_ends(&before, &config, counts);
         if answer.refusal() == 0 {
             assert!(
                 config_valid(model, &config),
@@ -181,6 +211,7 @@ fn accepted_steps_keep_the_configuration_valid() {
     let often = |r: &usize| *r == 9 || *r >= 11;
     let mut refusals = (0..21).filter(often).map(|r| counts.refusals[r]);
     assert!(refusals.all(|c| c > 1_000), "{counts:?}");
+    assert!(counts.ends.iter().all(|c| *c > 200), "{counts:?}");
     let answers = [counts.placed, counts.improper, counts.closed, counts.full];
     assert!(answers.iter().all(|c| *c > 500), "{counts:?}");
 }

@@ -422,6 +422,9 @@ fn fitting_command(rng: &mut Rng, model: &Model, config: &Config) -> Command {
     if runners.is_empty() {
         return Command::Tick;
     }
+    if let Some(command) = ending_command(rng, model, config, &runners) {
+        return command;
+    }
     for _ in 0..6 {
         let subject = rng.pick(&runners);
         let command = command_for(rng, model, config, subject);
@@ -433,6 +436,33 @@ fn fitting_command(rng: &mut Rng, model: &Model, config: &Config) -> Command {
         }
     }
     Command::Tick
+}
+
+/// A command that ends one of those who run while a reservation waits in its pool, where a few tries find one.
+fn ending_command(
+    rng: &mut Rng,
+    model: &Model,
+    config: &Config,
+    runners: &[u8],
+) -> Option<Command> {
+    let mut reserved = runners.to_vec();
+    reserved.retain(|s| {
+        let pool = &config.subjects[usize::from(*s)].pool;
+        pool.used().iter().any(|e| !e.message)
+    });
+    if reserved.is_empty() {
+        return None;
+    }
+    for _ in 0..4 {
+        let subject = rng.pick(&reserved);
+        let command = command_for(rng, model, config, subject);
+        let mut tried = *config;
+        step_valid(model, &mut tried, command);
+        if tried.subjects[usize::from(subject)].mode != RUNNING {
+            return Some(command);
+        }
+    }
+    None
 }
 
 /// A command of the kind that the subject's state asks for.
@@ -653,7 +683,8 @@ fn arranged_actor(rng: &mut Rng, subject: &Subject, n: usize) -> Actor {
     actor
 }
 
-/// Puts messages into a pool, mostly of what is sent there and mostly as many as fit.
+/// Puts messages into a pool, mostly of what is sent there and mostly as many as fit; at least one where its owner ended
+/// improperly.
 fn arrange_messages(
     rng: &mut Rng,
     model: &Model,
@@ -662,12 +693,13 @@ fn arrange_messages(
     sent: &[Channel],
 ) {
     let mine = sent_to(sent, owner);
+    let improper = config.subjects[owner].mode == ENDED_IMPROPERLY;
     let wanted = match rng.below(4) {
         0 => 0,
         1 => rng.between(1, 3),
         _ => rng.between(0, POOL),
     };
-    for _ in 0..wanted {
+    for _ in 0..wanted.max(usize::from(improper)) {
         let (sender, typ) = random_source(rng, &mine, model.n(), &[0, 1, 2, 31]);
         let pool = &mut config.subjects[owner].pool;
         if has_room(&model.subjects[owner], pool, sender, typ) {
@@ -823,6 +855,40 @@ pub fn twisted(rng: &mut Rng, config: &Config) -> [u8; CONFIG_BYTES] {
         _ => pool.entries[at].content = rng.word(),
     }
     config.to_bytes()
+}
+
+/// A configuration in which somebody has ended improperly but holds no message, all else as it may be; none where no subject
+/// has an end.
+pub fn hollow(rng: &mut Rng, model: &Model, config: &Config) -> Option<Config> {
+    let (s, end) = random_end(rng, model)?;
+    let mut config = *config;
+    for actor in &mut config.subjects {
+        keep_only(&mut actor.pool, |e| e.message || e.sender != s);
+    }
+    let actor = &mut config.subjects[usize::from(s)];
+    keep_only(&mut actor.pool, |e| !e.message);
+    actor.mode = ENDED_IMPROPERLY;
+    actor.state = end;
+    actor.waited = 0;
+    actor.mask = 0;
+    Some(config)
+}
+
+/// A subject and one of its ends; none where there is none.
+fn random_end(rng: &mut Rng, model: &Model) -> Option<(u8, u8)> {
+    let mut ends = Vec::new();
+    for (s, subject) in (0..).zip(&model.subjects) {
+        let states = (0..).zip(&subject.states);
+        ends.extend(states.filter(|(_, t)| t.kind == END).map(|(t, _)| (s, t)));
+    }
+    (!ends.is_empty()).then(|| rng.pick(&ends))
+}
+
+/// Removes the entries of a pool that do not fit; later ones move up.
+fn keep_only(pool: &mut Pool, fits: impl Fn(&Entry) -> bool) {
+    while let Some(at) = pool.used().iter().position(|e| !fits(e)) {
+        pool.remove(at);
+    }
 }
 
 /// A model with as much of something as there may be, or one more.

@@ -139,7 +139,8 @@ impl Comparison<'_> {
                 false => random_config(rng, model),
             };
             let start = match rng.below(24) {
-                0..=5 => disturbed(rng, &whole),
+                0..=4 => disturbed(rng, &whole),
+                5 => hollow(rng, model, &whole).unwrap_or(whole).to_bytes(),
                 6..=9 => twisted(rng, &whole),
                 10 | 11 => flagged(rng, &whole),
                 12 => any_bytes(rng),

@@ -4,8 +4,9 @@ use crate::second::*;
 use crate::text::names::refusal_word;
 use crate::text::tape_print::WORDS;
 
-/// The code of a Reserve.
+/// The codes of a Reserve and of a Tick.
 const RESERVE: u8 = 2;
+const TICK: u8 = 8;
 
 /// The counts of one comparison.
 #[derive(Clone, Debug, Default)]
@@ -19,6 +20,10 @@ pub struct Counts {
     /// Configurations given in bytes, and those of them that are none.
     pub configs: u64,
     pub none: u64,
+    /// Those that are not valid for nothing but that somebody ended improperly and holds no message.
+    pub hollow: u64,
+    /// Ends entered with nothing left in the own pool, with reservations only, and with a message.
+    pub ends: [u64; 3],
     pub accepted: [u64; 9],
     pub refusals: [u64; 21],
     /// Reserve's answers with somebody placed, improper, closed, full, and with nobody missing.
@@ -74,24 +79,42 @@ impl Counts {
     }
 
     /// Counts bytes in the place of a configuration.
-    pub fn config(&mut self, bytes: &[u8]) {
+    pub fn config(&mut self, model: &Model, bytes: &[u8]) {
         self.configs += 1;
-        self.none += u64::from(Config::from_bytes(bytes).is_none());
+        match Config::from_bytes(bytes) {
+            Some(config) => self.hollow += u64::from(lacks_a_message(model, &config)),
+            None => self.none += 1,
+        }
     }
 
-    /// Counts one step with its nine values.
-    pub fn step(&mut self, code: u8, refusal: u8, values: &[u8]) {
+    /// Counts one step with its nine values and the configuration after it.
+    pub fn step(&mut self, command: [u8; 8], refusal: u8, values: &[u8], config: &[u8]) {
+        let [code, subject, ..] = command;
         self.steps += 1;
         self.refusal(refusal);
         if refusal != 0 {
             return;
         }
         self.accepted[usize::from(code)] += 1;
+        if let (true, Some(config)) = (code != TICK, Config::from_bytes(config)) {
+            self.end(&config.subjects[usize::from(subject)]);
+        }
         if code == RESERVE {
             for (count, mask) in self.replies.iter_mut().zip(values.chunks_exact(2).take(4)) {
                 *count += u64::from(mask != [0, 0]);
             }
             self.replies[4] += u64::from(values[8] == 0);
+        }
+    }
+
+    /// Counts a subject that its own command has ended, by what is left in its pool.
+    fn end(&mut self, actor: &Actor) {
+        if matches!(actor.mode, ENDED | ENDED_IMPROPERLY) {
+            let left = match actor.pool.count {
+                0 => 0,
+                _ => 1 + usize::from(actor.pool.holds_message()),
+            };
+            self.ends[left] += 1;
         }
     }
 
@@ -120,6 +143,12 @@ impl Counts {
         }
         let words = ["placed", "improper", "closed", "full", "none missing"];
         text += &answers("Reserve", &words, &self.replies);
+        let [nothing, reservations, message] = self.ends;
+        text += &format!(
+            "\nends entered: {nothing} with nothing left, {reservations} with reservations only, {message} with a message\n\
+             configurations wrong only by an improper end without a message: {}\n",
+            self.hollow
+        );
         text += &format!("\nshared out: yes {}, no {}\n", self.yes, self.no);
         let words = ["accepted", "refused 8", "refused 6"];
         text += &answers("Write", &words, &self.writes);
@@ -128,6 +157,17 @@ impl Counts {
             self.edited, self.still_valid, self.back
         )
     }
+}
+
+/// Whether a configuration is not valid, and would be if those who ended improperly with no message had ended properly.
+pub fn lacks_a_message(model: &Model, config: &Config) -> bool {
+    let mut other = *config;
+    for actor in &mut other.subjects {
+        if actor.mode == ENDED_IMPROPERLY && !actor.pool.holds_message() {
+            actor.mode = ENDED;
+        }
+    }
+    other != *config && config_valid(model, &other)
 }
 
 /// How often each answer of a call came, a line each.

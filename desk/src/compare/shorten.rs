@@ -123,10 +123,7 @@ impl Shortener<'_> {
         if self.keep(candidate) {
             return true;
         }
-        if !self.starts_at_config() {
-            return self.plainer_bytes();
-        }
-        let mut smaller = false;
+        let mut smaller = !self.starts_at_config() && self.plainer_bytes();
         for s in 0..16 {
             for change in ACTOR_CHANGES {
                 smaller |= self.simpler_actor(s, change);
@@ -210,10 +207,17 @@ impl Shortener<'_> {
             if shorter == draft || shorter.size() > draft.size() {
                 continue;
             }
+            let room = self.best.file.len() as isize + self.best.spare.answer;
             let mut candidates = after_cut(&self.best, &shorter, cut).into_iter();
-            smaller |= candidates.any(|c| self.keep(c));
+            smaller |= candidates.any(|c| self.keep(c.clone()) || self.keep_with_room(c, room));
         }
         smaller
+    }
+
+    /// Takes a smaller write with so much room for the file, if it still differs.
+    fn keep_with_room(&mut self, mut candidate: Trial, room: isize) -> bool {
+        candidate.spare.answer = room - candidate.file.len() as isize;
+        candidate.call == Call::Write && self.keep(candidate)
     }
 
     /// Makes the words and the other bytes of the commands 0.
@@ -291,16 +295,33 @@ const ACTOR_CHANGES: &[&dyn Fn(&mut Actor)] = &[
     &|a| a.state = 0,
 ];
 
-/// The bytes of a start with its configuration changed; as they are where they are none.
+/// The bytes of a start with its configuration changed. A byte that says neither message nor reservation counts as message
+/// meanwhile and moves with its entry.
 fn changed_config(
     start: Option<[u8; CONFIG_BYTES]>,
-    change: impl FnOnce(&mut Config),
+    change: impl Fn(&mut Config),
 ) -> Option<[u8; CONFIG_BYTES]> {
-    let Some(mut config) = start.and_then(|bytes| Config::from_bytes(&bytes)) else {
-        return start;
-    };
+    let bytes = start?;
+    let entries = || (0..16).flat_map(|s| (0..POOL).map(move |e| (s, e)));
+    let mut plain = bytes;
+    for (s, e) in entries() {
+        plain[message_at(s, e)] = bytes[message_at(s, e)].min(1);
+    }
+    let mut config = Config::from_bytes(&plain)?;
+    let mut said = config;
+    for (s, e) in entries() {
+        said.subjects[s].pool.entries[e].content = bytes[message_at(s, e)].into();
+    }
     change(&mut config);
-    Some(config.to_bytes())
+    change(&mut said);
+    let mut changed = config.to_bytes();
+    for (s, e) in entries() {
+        let byte = said.subjects[s].pool.entries[e].content as u8;
+        if byte > 1 {
+            changed[message_at(s, e)] = byte;
+        }
+    }
+    Some(changed)
 }
 
 /// Takes a reservation out of a pool and out of its sender's mask.

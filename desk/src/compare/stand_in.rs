@@ -1,6 +1,7 @@
 //! A stand-in for the proved engine, for the desk's tests: the second engine behind its calls, whole and with deliberate faults.
 
 use super::calls::*;
+use super::counts::lacks_a_message;
 use super::draft::mend;
 use super::flat::*;
 use crate::proved::Engine;
@@ -21,6 +22,14 @@ pub enum Fault {
     Withdrawn,
     /// Marks of senders from n up go unnoticed.
     Marks,
+    /// A reservation left makes an end improper too.
+    Waiting,
+    /// At an end only the first entry is asked whether it is a message.
+    Glance,
+    /// Somebody who ended improperly and holds no message goes unnoticed.
+    Hollow,
+    /// Who ended properly and holds an entry is refused.
+    Tidy,
     /// The block of refusal 5 is given.
     Block,
     /// A limit of 16 is refused.
@@ -174,10 +183,33 @@ impl StandIn {
                     told = 0;
                 }
             }
+            Waiting | Glance => {
+                let pairs = after.subjects.iter_mut().zip(&before.subjects);
+                let ran = pairs.filter(|(_, old)| old.mode == RUNNING);
+                ran.for_each(|(actor, _)| self.misjudge_end(actor));
+            }
+            Hollow if refusal == 10 && lacks_a_message(model, before) => told = 0,
+            Tidy if refusal == 0 => {
+                let ended = |a: &Actor| a.mode == ENDED && a.pool.count != 0;
+                if before.subjects.iter().any(ended) {
+                    told = 10;
+                }
+            }
             _ => {}
         }
         config[..CONFIG_BYTES].copy_from_slice(&after.to_bytes());
         told
+    }
+
+    /// Changes the mode of a subject that has just ended by the fault.
+    fn misjudge_end(&self, actor: &mut Actor) {
+        match actor.mode {
+            ENDED if self.0 == Waiting && actor.pool.count != 0 => actor.mode = ENDED_IMPROPERLY,
+            ENDED_IMPROPERLY if self.0 == Glance && !actor.pool.entries[0].message => {
+                actor.mode = ENDED;
+            }
+            _ => {}
+        }
     }
 
     /// The bytes of a model as the fault reads them.

@@ -2,7 +2,7 @@
 
 use super::calls::*;
 use super::cases::Comparison;
-use super::counts::Counts;
+use super::counts::{lacks_a_message, Counts};
 use super::draft::{Cut, Draft};
 use super::edits::{edited, edits_between, Edit};
 use super::flat::*;
@@ -42,6 +42,8 @@ fn finds_no_difference_where_there_is_none() {
         counts.none > 400 && counts.configs > 2 * counts.none,
         "{table}"
     );
+    assert!(counts.ends.iter().all(|c| *c > 10), "{table}");
+    assert!(counts.hollow > 50, "{table}");
     assert!(counts.writes.iter().all(|c| *c > 400), "{table}");
     let not = counts.edited - counts.still_valid;
     assert!(counts.still_valid > 400 && not > 400, "{table}");
@@ -51,10 +53,10 @@ fn finds_no_difference_where_there_is_none() {
 #[test]
 fn finds_faults_and_makes_them_short() {
     let faults = [
-        Content, Appended, Timeout, Withdrawn, Marks, Block, Limit, Room, Sleeper, Line, Piece,
-        Shares, Emptied, Roomy, Blank, Zeros, Stepped, Last, Flag, LastBit, Brief, Wiped, Each,
-        Short, Early, Partly, Onward, Cleared, Unsealed, Behind, Sooner, Unswept, Partial, Told,
-        Tight, Spoilt, Trusting, Loose, Filled, Strict, Clamped,
+        Content, Appended, Timeout, Withdrawn, Marks, Waiting, Glance, Hollow, Tidy, Block, Limit,
+        Room, Sleeper, Line, Piece, Shares, Emptied, Roomy, Blank, Zeros, Stepped, Last, Flag,
+        LastBit, Brief, Wiped, Each, Short, Early, Partly, Onward, Cleared, Unsealed, Behind,
+        Sooner, Unswept, Partial, Told, Tight, Spoilt, Trusting, Loose, Filled, Strict, Clamped,
     ];
     for fault in faults {
         let trial = found(fault, 200).unwrap_or_else(|| panic!("{fault:?} not found"));
@@ -145,12 +147,40 @@ fn cutting_a_valid_file_keeps_its_blocks_in_order() {
 #[test]
 fn arranged_configurations_are_mostly_valid() {
     let mut rng = Rng::new(10);
-    let mut valid = 0;
+    let (mut valid, mut improper) = (0, 0);
     for _ in 0..2_000 {
         let model = random_model(&mut rng);
-        valid += usize::from(config_valid(&model, &arranged(&mut rng, &model)));
+        let config = arranged(&mut rng, &model);
+        if config_valid(&model, &config) {
+            let mut actors = config.subjects.iter();
+            improper += usize::from(actors.any(|a| a.mode == ENDED_IMPROPERLY));
+            valid += 1;
+        }
     }
-    assert!(valid > 1_800, "{valid}");
+    assert!(valid > 1_800 && improper > 400, "{valid}, {improper}");
+}
+
+#[test]
+fn hollow_configurations_lack_nothing_but_a_message() {
+    let mut rng = Rng::new(15);
+    let mut counts = [0; 2];
+    for _ in 0..2_000 {
+        let model = random_model(&mut rng);
+        let whole = match rng.chance(60) {
+            true => arranged(&mut rng, &model),
+            false => random_config(&mut rng, &model),
+        };
+        assert!(!lacks_a_message(&model, &whole));
+        let Some(config) = hollow(&mut rng, &model, &whole) else {
+            continue;
+        };
+        assert!(!config_valid(&model, &config));
+        assert!(lacks_a_message(&model, &config));
+        let waited_for =
+            |a: &Actor| a.mode == ENDED_IMPROPERLY && !a.pool.holds_message() && a.pool.count != 0;
+        counts[usize::from(config.subjects.iter().any(waited_for))] += 1;
+    }
+    assert!(counts.iter().all(|c| *c > 150), "{counts:?}");
 }
 
 #[test]

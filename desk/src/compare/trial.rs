@@ -124,7 +124,7 @@ impl Trial {
             CONFIG_BYTES.saturating_add_signed(self.spare.config),
             UNTOUCHED,
         );
-        counts.config(&bytes);
+        counts.config(model, &bytes);
         bytes
     }
 
@@ -248,7 +248,7 @@ impl Trial {
             let mut told_values = values.clone();
             let refusal = step_call(&model, &mut second, command, &mut values);
             let told = engine.step(&self.file, &mut proved, piece, &mut told_values);
-            counts.step(command[0], refusal, &values);
+            counts.step(command, refusal, &values, &second);
             let difference = Difference::at(i)
                 .number("refusal", refusal, told)
                 .bytes(value_fields, &values, &told_values)

@@ -62,6 +62,11 @@ impl Pool {
         self.used().iter().filter(matches).count()
     }
 
+    /// Whether a message is among the entries; the search stops at the first.
+    pub fn holds_message(&self) -> bool {
+        self.used().iter().any(|e| e.message)
+    }
+
     /// Puts an entry at the end; the caller knows there is room.
     pub fn push(&mut self, entry: Entry) {
         self.entries[usize::from(self.count)] = entry;
@@ -117,7 +122,7 @@ pub fn config_valid(model: &Model, config: &Config) -> bool {
         && places_agree(model, config)
 }
 
-/// Whether mode, state, wait, word, mask and marks of one subject fit together.
+/// Whether mode, state, wait, word, mask and marks of one subject fit together; who ended improperly holds a message.
 fn actor_valid(subject: &Subject, actor: &Actor, n: usize) -> bool {
     let Some(state) = subject.states.get(usize::from(actor.state)) else {
         return false;
@@ -127,7 +132,8 @@ fn actor_valid(subject: &Subject, actor: &Actor, n: usize) -> bool {
     let mode_fits = match actor.mode {
         ASLEEP => actor.state == subject.initial && actor.word == 0,
         RUNNING => !at_end,
-        ENDED | ENDED_IMPROPERLY => at_end,
+        ENDED => at_end,
+        ENDED_IMPROPERLY => at_end && actor.pool.holds_message(),
         _ => false,
     };
     let may_hold = if running { state.receivers } else { 0 };

@@ -190,13 +190,38 @@ fn expire_either_side_of_the_duration() {
 }
 
 #[test]
-fn expire_with_a_reservation_waiting_ends_improperly() {
+fn expire_with_a_reservation_waiting_ends_properly() {
     let p = model_p();
     let tick = Command::Tick;
     let commands = [do_it(0, 0, 35), RESERVE_0, tick, tick, tick, EXPIRE_1];
     let config = after(&p, &commands);
-    assert_eq!(config.subjects[1].mode, ENDED_IMPROPERLY);
-    assert_eq!(refusal_after(&p, &commands, DELIVER_0), 17);
+    assert_eq!(config.subjects[1].mode, ENDED);
+    assert_eq!(config.subjects[1].pool.used(), [entry(0, 0, false, 0)]);
+    let config = after(&p, &[&commands[..], &[DELIVER_0]].concat());
+    let receiver = &config.subjects[1];
+    assert_eq!((receiver.mode, receiver.state), (RUNNING, 0));
+    assert_eq!((receiver.word, receiver.waited), (0, 0));
+    assert_eq!(receiver.pool.used(), [entry(0, 0, true, 35)]);
+    let config = after(&p, &[&commands[..], &[DELIVER_0, TAKE_1]].concat());
+    assert_eq!(
+        (config.subjects[1].mode, config.subjects[1].word),
+        (ENDED, 35)
+    );
+}
+
+#[test]
+fn a_place_with_who_ended_properly_can_be_given_up() {
+    let p = model_p();
+    let tick = Command::Tick;
+    let cancel = Command::Cancel { subject: 0 };
+    let commands = [do_it(0, 0, 35), RESERVE_0, tick, tick, tick, EXPIRE_1];
+    let config = after(&p, &[&commands[..], &[cancel]].concat());
+    assert_eq!(config.subjects[1].mode, ENDED);
+    assert_eq!(config.subjects[1].pool, Pool::default());
+    let again = [cancel, do_it(0, 0, 36), RESERVE_0, DELIVER_0];
+    let config = after(&p, &[&commands[..], &again[..]].concat());
+    assert_eq!(config.subjects[1].mode, RUNNING);
+    assert_eq!(config.subjects[1].pool.used(), [entry(0, 0, true, 36)]);
 }
 
 #[test]
@@ -419,6 +444,82 @@ fn a_timeout_does_not_win_over_a_send_that_can_deliver() {
     assert_eq!(refusal_after(&m, &commands, expire(1)), 0);
 }
 
+const CANCEL_2: Command = Command::Cancel { subject: 2 };
+
+/// The two senders, both in their sends, after these commands.
+fn both_sending(commands: &[Command]) -> Config {
+    let start = [do_it(0, 0, 5), do_it(1, 0, 6)];
+    after(&two_senders(2), &[&start[..], commands].concat())
+}
+
+#[test]
+fn only_a_message_left_makes_an_end_improper() {
+    let ends = |commands: &[Command]| {
+        let config = both_sending(&[commands, &[CANCEL_2]].concat());
+        config.subjects[2].mode
+    };
+    assert_eq!(ends(&[]), ENDED);
+    assert_eq!(ends(&[RESERVE_0]), ENDED);
+    assert_eq!(ends(&[RESERVE_0, RESERVE_1]), ENDED);
+    assert_eq!(ends(&[RESERVE_0, DELIVER_0]), ENDED_IMPROPERLY);
+    let message_first = [RESERVE_0, RESERVE_1, DELIVER_0];
+    assert_eq!(ends(&message_first), ENDED_IMPROPERLY);
+    let message_last = [RESERVE_1, RESERVE_0, DELIVER_0];
+    assert_eq!(ends(&message_last), ENDED_IMPROPERLY);
+}
+
+#[test]
+fn with_a_message_and_a_reservation_left_the_other_sender_is_refused_17() {
+    let m = two_senders(2);
+    for places in [[RESERVE_0, RESERVE_1], [RESERVE_1, RESERVE_0]] {
+        let mut config = both_sending(&[&places[..], &[DELIVER_0, CANCEL_2]].concat());
+        let before = config;
+        assert_eq!(config.subjects[2].mode, ENDED_IMPROPERLY);
+        assert_eq!(step(&m, &mut config, DELIVER_1), Answer::Refused(17));
+        assert_eq!(config, before);
+    }
+}
+
+#[test]
+fn who_ended_improperly_keeps_its_message() {
+    let m = two_senders(2);
+    let mut config = both_sending(&[RESERVE_1, RESERVE_0, DELIVER_0, CANCEL_2, Command::Tick]);
+    let take = Command::Take {
+        subject: 2,
+        exit: 0,
+    };
+    assert_eq!(step(&m, &mut config, take), Answer::Refused(12));
+    assert_eq!(step(&m, &mut config, CANCEL_2), Answer::Refused(12));
+    assert_eq!(step(&m, &mut config, EXPIRE_1), Answer::Done);
+    assert_eq!(config.subjects[2].mode, ENDED_IMPROPERLY);
+    assert_eq!(config.subjects[2].pool.used(), [entry(0, 0, true, 5)]);
+    assert_eq!(step(&m, &mut config, do_it(1, 0, 7)), Answer::Done);
+    let improper = Answer::Reserved {
+        placed: 0,
+        improper: 4,
+        closed: 0,
+        full: 0,
+        missing: 1,
+    };
+    assert_eq!(step(&m, &mut config, RESERVE_1), improper);
+}
+
+#[test]
+fn who_ended_with_reservations_only_is_started_by_the_first_deliver() {
+    let m = two_senders(2);
+    let mut config = both_sending(&[RESERVE_0, RESERVE_1, CANCEL_2, Command::Tick]);
+    let expire = Command::Expire { subject: 0 };
+    assert_eq!(step(&m, &mut config, expire), Answer::Refused(20));
+    assert_eq!(step(&m, &mut config, DELIVER_1), Answer::Done);
+    let receiver = &config.subjects[2];
+    assert_eq!((receiver.mode, receiver.state), (RUNNING, 0));
+    let line = [entry(0, 0, false, 0), entry(1, 0, true, 6)];
+    assert_eq!(receiver.pool.used(), line);
+    assert_eq!(step(&m, &mut config, DELIVER_0), Answer::Done);
+    let line = [entry(0, 0, true, 5), entry(1, 0, true, 6)];
+    assert_eq!(config.subjects[2].pool.used(), line);
+}
+
 #[test]
 fn leaving_withdraws_every_reservation() {
     let mut m = two_senders(2);
@@ -462,7 +563,10 @@ fn close_open_and_ask_empty() {
     let config = after(&m, &[run, run, run]);
     assert_eq!(config.subjects[2].closed, [0; 16]);
     let config = after(&m, &[do_it(1, 0, 1), RESERVE_1, run, run]);
-    assert_eq!(config.subjects[2].mode, ENDED_IMPROPERLY);
+    assert_eq!(
+        (config.subjects[2].mode, config.subjects[2].state),
+        (ENDED, 3)
+    );
 }
 
 #[test]
@@ -631,26 +735,63 @@ fn waits_stop_at_their_most() {
     assert_eq!(config.subjects[1].waited, 1);
 }
 
+/// Subject 0 sends to itself and to subject 2, which can close its pool; however that send is left, subject 0 ends.
+/// Subject 1 sends to subject 0.
+fn send_to_oneself() -> Model {
+    let mut m = two_senders(16);
+    let send = &mut m.subjects[0].states[1];
+    send.receivers = 5;
+    send.exits[0].target = 2;
+    send.timeout = 2;
+    send.cancel = 2;
+    m.subjects[0].states.push(state(END, &[]));
+    m.subjects[1].states[1].receivers = 1;
+    m.subjects[2].states[0] = state(CLOSE, &[exit(0, ANY, ANY)]);
+    m
+}
+
 #[test]
 fn a_send_to_oneself() {
-    let mut m = two_senders(16);
-    m.subjects[0].states[1].receivers = 1;
-    m.subjects[0].states[1].exits[0].target = 2;
-    m.subjects[0].states[1].cancel = 2;
-    m.subjects[0].states.push(state(END, &[]));
-    let commands = [do_it(0, 0, 5), RESERVE_0, Command::Cancel { subject: 0 }];
-    assert_eq!(after(&m, &commands).subjects[0].mode, ENDED);
-    let commands = [do_it(0, 0, 5), RESERVE_0, DELIVER_0];
-    let config = after(&m, &commands);
-    assert_eq!(config.subjects[0].mode, ENDED_IMPROPERLY);
-    assert_eq!(config.subjects[0].pool.used(), [entry(0, 0, true, 5)]);
+    let m = send_to_oneself();
+    let send = [do_it(0, 0, 5), RESERVE_0, DELIVER_0];
+    let actor = after(&m, &send).subjects[0];
+    assert_eq!(actor.mode, ENDED_IMPROPERLY);
+    assert_eq!(actor.pool.used(), [entry(0, 0, true, 5)]);
+    let other = [do_it(1, 0, 6), RESERVE_1];
+    let actor = after(&m, &[&other[..], &send].concat()).subjects[0];
+    assert_eq!(actor.mode, ENDED_IMPROPERLY);
+    let line = [entry(1, 0, false, 0), entry(0, 0, true, 5)];
+    assert_eq!(actor.pool.used(), line);
+}
+
+#[test]
+fn leaving_a_send_to_oneself_counts_no_reservation() {
+    let m = send_to_oneself();
+    let closed = Command::Run { subject: 2 };
+    let leaves = [
+        Command::Expire { subject: 0 },
+        Command::Cancel { subject: 0 },
+    ];
+    let other = [do_it(1, 0, 6), RESERVE_1];
+    for leave in leaves {
+        let ends = |before: &[Command]| {
+            let send = [closed, do_it(0, 0, 5), RESERVE_0, Command::Tick, leave];
+            after(&m, &[before, &send].concat()).subjects[0]
+        };
+        assert_eq!((ends(&[]).mode, ends(&[]).pool.count), (ENDED, 0));
+        let left = ends(&other);
+        assert_eq!(left.mode, ENDED);
+        assert_eq!(left.pool.used(), [entry(1, 0, false, 0)]);
+        let left = ends(&[&other[..], &[DELIVER_1]].concat());
+        assert_eq!(left.mode, ENDED_IMPROPERLY);
+        assert_eq!(left.pool.used(), [entry(1, 0, true, 6)]);
+    }
 }
 
 #[test]
 fn a_receiver_that_ended_properly_starts_again() {
     let mut m = two_senders(16);
-    let cancel = Command::Cancel { subject: 2 };
-    let commands = [cancel, do_it(0, 0, 5), RESERVE_0];
+    let commands = [CANCEL_2, do_it(0, 0, 5), RESERVE_0];
     let config = after(&m, &commands);
     assert_eq!(config.subjects[2].mode, ENDED);
     let config = after(&m, &[&commands[..], &[DELIVER_0]].concat());
@@ -667,7 +808,7 @@ fn a_receiver_that_ended_properly_starts_again() {
     let again = [
         DELIVER_0,
         take,
-        cancel,
+        CANCEL_2,
         do_it(0, 0, 7),
         RESERVE_0,
         DELIVER_0,
@@ -727,11 +868,17 @@ fn each_rule_of_a_valid_configuration() {
 fn rules_for_those_who_do_not_run() {
     let asleep = |c: &mut Config| c.subjects[1].mode = ASLEEP;
     let ended = |c: &mut Config| {
+        c.subjects[1].mode = ENDED;
+        c.subjects[1].state = 1;
+    };
+    let improper = |c: &mut Config| {
         c.subjects[1].mode = ENDED_IMPROPERLY;
         c.subjects[1].state = 1;
+        c.subjects[1].pool.push(entry(1, 31, true, 9));
     };
     assert!(valid_with(asleep));
     assert!(valid_with(ended));
+    assert!(valid_with(improper));
     let and = |first: fn(&mut Config), then: fn(&mut Actor)| {
         valid_with(|c| {
             first(c);
@@ -744,6 +891,41 @@ fn rules_for_those_who_do_not_run() {
     assert!(!and(asleep, |a| a.waited = 1));
     assert!(!and(ended, |a| a.waited = 1));
     assert!(!and(ended, |a| a.mask = 1));
+    assert!(and(improper, |a| a.word = 1));
+    assert!(!and(improper, |a| a.state = 0));
+    assert!(!and(improper, |a| a.waited = 1));
+    assert!(!and(improper, |a| a.mask = 1));
+    assert!(!and(improper, |a| {
+        a.pool.remove(1);
+    }));
+    assert!(and(asleep, |a| a.pool.push(entry(1, 31, true, 9))));
+    assert!(and(ended, |a| a.pool.push(entry(1, 31, true, 9))));
+}
+
+#[test]
+fn who_ended_improperly_without_a_message_is_refused_10() {
+    let p = model_p();
+    let message = entry(1, 31, true, 9);
+    let ended = |mode: u8, reserved: bool, message: &[Entry]| {
+        let commands = [do_it(0, 0, 35), RESERVE_0];
+        let mut config = after(&p, &commands[..1 + usize::from(reserved)]);
+        config.subjects[1].mode = mode;
+        config.subjects[1].state = 1;
+        message
+            .iter()
+            .for_each(|m| config.subjects[1].pool.push(*m));
+        let before = config;
+        let refusal = step(&p, &mut config, TAKE_1).refusal();
+        assert_eq!(config, before);
+        assert_eq!(config_valid(&p, &config), refusal != 10);
+        refusal
+    };
+    for reserved in [false, true] {
+        assert_eq!(ended(ENDED_IMPROPERLY, reserved, &[]), 10);
+        assert_eq!(ended(ENDED_IMPROPERLY, reserved, &[message]), 12);
+        assert_eq!(ended(ENDED, reserved, &[]), 12);
+        assert_eq!(ended(ENDED, reserved, &[message]), 12);
+    }
 }
 
 #[test]
@@ -812,7 +994,7 @@ fn a_pool_of_sixteen_is_full() {
 #[test]
 fn improper_goes_before_closed_and_closed_before_full() {
     let m = two_senders(1);
-    let commands = [do_it(0, 0, 5), do_it(1, 0, 6), RESERVE_1];
+    let commands = [do_it(0, 0, 5), do_it(1, 0, 6), RESERVE_1, DELIVER_1];
     let answer = |improper, closed, full| Answer::Reserved {
         placed: 0,
         improper,
@@ -824,8 +1006,7 @@ fn improper_goes_before_closed_and_closed_before_full() {
     assert_eq!(step(&m, &mut config, RESERVE_0), answer(0, 0, 4));
     config.subjects[2].closed[0] = 1;
     assert_eq!(step(&m, &mut config, RESERVE_0), answer(0, 4, 0));
-    let cancel = Command::Cancel { subject: 2 };
-    assert_eq!(step(&m, &mut config, cancel), Answer::Done);
+    assert_eq!(step(&m, &mut config, CANCEL_2), Answer::Done);
     assert_eq!(step(&m, &mut config, RESERVE_0), answer(4, 0, 0));
 }
 

@@ -1,13 +1,13 @@
 -- Ends: what validity says of who ended improperly, what commands leave of it, and who is started by a Deliver.
 use mathlib.Core.Path.{_≡_, refl, sym, ap, _∙_}
 use mathlib.Core.Logic.{_≢_}
-use mathlib.Core.Bool.{Bool, true, false, _&&_, not, cond}
+use mathlib.Core.Bool.{Bool, true, false, _&&_, not}
 use mathlib.Core.List.{List, [], _∷_, _++_, map, append-nil}
 use Prim.Native.Nat.{ℕ, _≤_, _<_}
 use native.Mathlib.Omega.{arith}
 use borrow.Author.Tests.{eq-eqb, eqb-true, ltb-true, ltb-false, not-true, not-false}
 use lib.Dec.{eqb, ltb}
-use lib.ListN.{length, getD, List·getD-eq-default}
+use lib.ListN.{List·getD-eq-default}
 use Rattle.sets.specs.Lists.{passing}
 use Rattle.sets.specs.Masks.{bit}
 use Rattle.sets.proofs.Below.{none-each}
@@ -15,7 +15,7 @@ use Rattle.sets.proofs.Lists.{all-of-at, all-of-each, counted-none, passing-app
 use Rattle.sets.proofs.Tests.{not-both, and-true, and-false, is-false}
 use Rattle.model.specs.Rules.{any}
 use Rattle.model.specs.Sizes.{mostSubjects}
-use Rattle.model.specs.Valid.{noSubject, subjectAt, exitAt, valid}
+use Rattle.model.specs.Valid.{subjectAt, exitAt, valid}
 use Rattle.model.specs.declared.Model.{Model}
 use Rattle.engine.specs.pools.Sizes.{mostEntries}
 use Rattle.engine.specs.pools.Entries.{blankEntry, reservation, reservedBy, delivered}
@@ -23,7 +23,7 @@ use Rattle.engine.specs.pools.Pools.{held, reservations}
 use Rattle.engine.specs.declared.Entry.{Entry}
 use Rattle.engine.specs.configs.Answers.{refusalOf}
 use Rattle.engine.specs.configs.Subjects.{asleep, running, endedProperly, endedImproperly, nobody, noOne, at, hereOf, Held}
-use Rattle.engine.specs.configs.Valid.{typeOf, configValid}
+use Rattle.engine.specs.configs.Valid.{configValid}
 use Rattle.engine.specs.declared.Config.{Config}
 use Rattle.engine.specs.declared.Stepped.{Stepped}
 use Rattle.engine.specs.declared.Subject.{Subject}
@@ -36,15 +36,13 @@ use Rattle.engine.specs.declared.Command.the-variants.{Do, Reserve, Deliver, Ta
 use Rattle.engine.proofs.Cited.{GoodConfig, config-good, delivered-same, held-delivered, subject-there}
 use Rattle.engine.proofs.KeptOne.{fields-here}
 use Rattle.engine.proofs.SweepLaws.{sweep-other}
-use Rattle.engine_promises.specs.Runs.{runFrom}
 use Rattle.engine_promises.proofs.Refusals.{effectOf, Accepted, accepted-is, accepted-tells}
 use Rattle.engine_promises.proofs.Steps.{deliver-places}
-use Rattle.demands.specs.Due.{stepRefusal}
-use Rattle.demands.specs.Ends.{HoldsMessage, ImproperHoldsMessage, messagesOf, StillImproper, NoMessageTaken, WaitsAt, Woken, DeliverWakes}
+use Rattle.demands.specs.Ends.{HoldsMessage, ImproperHoldsMessage, messagesOf, StillImproper, NoMessageTaken, WaitsAt, DeliverWakes}
 use Rattle.demands.specs.Shares.{atLast}
 use Rattle.demands.proofs.Along.{along, last-held, last-valid}
 use Rattle.demands.proofs.Chatter.{left-alone}
-use Rattle.demands.proofs.PoolMoves.{Moved, pool-moved}
+use Rattle.demands.proofs.PoolMoves.{pool-moved}
 
 -- ---- who is awake is there
 

@@ -14,7 +14,7 @@ use Rattle.model.specs.declared.State.{State}
 use Rattle.model.specs.declared.Subject as model-subject
 use Rattle.model_promises.proofs.Facts.{model-good}
 use Rattle.engine.specs.configs.Subjects.{at, hereOf}
-use Rattle.engine.specs.configs.Valid.{modeRight, stateThere, endRight, sleepRight, waitRight, maskRight, fieldsRight, marksRight, poolRight, subjectValid, subjectRight}
+use Rattle.engine.specs.configs.Valid.{modeRight, stateThere, endRight, sleepRight, waitRight, maskRight, fieldsRight, subjectValid, subjectRight}
 use Rattle.engine.specs.declared.Config.{Config}
 use Rattle.engine.specs.declared.Subject.{Subject}
 use Rattle.engine.proofs.configs.ModelFacts.{n-high}

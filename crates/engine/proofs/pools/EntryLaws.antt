@@ -10,7 +10,7 @@ use borrow.Author.Tests.{eq-eqb, ne-eqb, eqb-true, eqb-false, leb-true, le-leb}
 use lib.Bits.{bitOr, or-add-and, or-lt, or-block, or-zero-r, and-mask}
 use lib.Dec.{eqb, ltb, lit<}
 use lib.ListN.{length, length-map}
-use Rattle.sets.specs.Lists.{allOf, passing, counted}
+use Rattle.sets.specs.Lists.{allOf, someOf, passing, counted}
 use Rattle.sets.specs.declared.Found.the-variants.{At, Nothing}
 use Rattle.sets.proofs.Tests.{and-true, and-both, and-false, not-both, is-false, choose}
 use Rattle.sets.proofs.Below.{all-each, all-by}
@@ -209,6 +209,11 @@ any-message e = go (e .message)
     go : (b : Bool) → (b && true) ≡ b
     go true = refl
     go false = refl
+
+-- none in an empty pool
+pub message-empty : (p : Pool) → p .count ≡ 0 → hasMessage (held p) ≡ false
+unfolding held hasMessage someOf
+message-empty p e = rw e
 
 module _ (es : List Entry) where
   -- exactly where the search for any finds one

@@ -9,7 +9,7 @@ use crate::pools::searches;
 use model::MOST_SUBJECTS;
 
 impl Subject {
-    // The subject comes to a state; at an end it is over: improperly if a message is left in its pool.
+    // The subject comes to a state; at an end it is over: improperly if a message is left in its pool. An empty pool is not searched.
     pub(crate) fn enter(mut self, state: u8, end: bool) -> Self
         ensures { λ r. ⌜ r ≡ entered state end self ⌝ }
     {
@@ -17,10 +17,11 @@ impl Subject {
         self.waited = 0;
         self.mask = 0;
         if end {
-            if searches::has_message(self.pool) {
-                self.mode = 3;
-            } else {
-                self.mode = 2;
+            self.mode = 2;
+            if self.pool.count != 0 {
+                if searches::has_message(self.pool) {
+                    self.mode = 3;
+                }
             }
         }
         self

@@ -93,14 +93,17 @@ def table(root):
 def code(text, new, behind):
     """The antt text with each word of the table turned; words behind a dot too where `behind` says so."""
 
-    def one(m):
-        if not behind and text[m.start() - 1 : m.start()] == ".":
-            return m[0]
-        return new.get(m[0], m[0])
+    def turned(part):
+        def one(m):
+            if not behind and part[m.start() - 1 : m.start()] == ".":
+                return m[0]
+            return new.get(m[0], m[0])
+
+        return WORD.sub(one, part)
 
     # Modules keep their names: what stands behind `use` and in a whole path.
     parts = re.split(r"(\buse [^\s{;]+|\bRattle\.[\w.+-]+)", text)
-    return "".join(part if k % 2 else WORD.sub(one, part) for k, part in enumerate(parts))
+    return "".join(part if k % 2 else turned(part) for k, part in enumerate(parts))
 
 
 def clauses(text, new):

@@ -1,6 +1,6 @@
 -- Reserving keeps a good configuration good.
 use mathlib.Core.Path.{◌≡◌, refl, sym, ap, subst, ◌∙◌}
-use mathlib.Core.Bool.{Bool, true, false, ◌&&◌, ◌||◌, not, cond, and_true, and_false, or-true}
+use mathlib.Core.Bool.{Bool, true, false, ◌&&◌, ◌||◌, not, cond, and-true, and-false, or-true}
 use Prim.Native.Nat.{ℕ, ◌+◌, ◌^◌, ◌≤◌, ◌<◌}
 use native.Mathlib.Omega.{arith}
 use borrow.Author.Tests.{eq-eqb, ne_eqb, eqb-true, eqb-false, not-true}
@@ -190,14 +190,14 @@ module _ (m : Model) (c : Config) (s : ℕ) where
         → reservations s t (held (pool_after m c s r)) ≡ cond (bit (mask_after m c s s) r) 1 0
     count_sender r j t f h =
         count_after r (omega (arith, few)) s t
-        ∙ rw (h, f, eq-eqb s s refl, and_true (gives m c s r), grown r (omega (arith, few)))
+        ∙ rw (h, f, eq-eqb s s refl, and-true (gives m c s r), grown r (omega (arith, few)))
         (one_of (bit (at c s).mask r) (gives m c s r) (λ e. (giver r e).free))
 
     -- of others: as many as before
     count_other : (r q t : ℕ) → r < most_subjects → eqb q s ≡ false → reservations q t (held (pool_after m c s r)) ≡ reservations q t (held (at c r).pool)
     count_other r q t j e =
         count_after r j q t
-        ∙ rw (ne_eqb s q (λ h. eqb-false q s e (sym h)), and_false (gives m c s r)) (omega arith)
+        ∙ rw (ne_eqb s q (λ h. eqb-false q s e (sym h)), and-false (gives m c s r)) (omega arith)
 
     -- ---- all of it
 

@@ -1,6 +1,6 @@
 -- What a round of reserving leaves: each receiver without a place is asked once, on the configuration as it was before the round.
 use mathlib.Core.Path.{◌≡◌, refl, sym, ap, subst, ◌∙◌}
-use mathlib.Core.Bool.{Bool, true, false, ◌&&◌, ◌||◌, not, cond, or-false, and_true, and_false}
+use mathlib.Core.Bool.{Bool, true, false, ◌&&◌, ◌||◌, not, cond, or-false, and-true, and-false}
 use mathlib.Core.List.{List}
 use Prim.Native.Nat.{ℕ, ◌+◌, ◌-◌, ◌^◌, ◌≤◌, ◌<◌}
 use native.Mathlib.Omega.{arith}
@@ -208,9 +208,9 @@ more_noted true true v w f = rw (← (f refl)) (or_same v)
     or_same : (b : Bool) → (b || (b && true)) ≡ b
     or_same true = refl
     or_same false = refl
-more_noted true false v w f = rw and_false (or-false v)
-more_noted false true v w f = rw (and_true w) (sym (f refl))
-more_noted false false v w f = and_false w
+more_noted true false v w f = rw and-false (or-false v)
+more_noted false true v w f = rw (and-true w) (sym (f refl))
+more_noted false false v w f = and-false w
 
 or_shift : (a b d : Bool) → ((a || b) || d) ≡ (a || (b || d))
 or_shift true b d = refl
@@ -261,7 +261,7 @@ module _ (subjects : List model_subject.Subject) (here : State) (c : Config) (s 
       where
         same_noted : (q : Reply) (k : ℕ) (b : Bool) → eqb k n ≡ b
             → ((ltb k n || eqb k n) && answers subjects here c s q k) ≡ (ltb k n && answers subjects here c s q k)
-        same_noted q k true t = rw (eqb-true k n t, silent q n e, and_false (ltb n n), and_false (ltb n n || eqb n n))
+        same_noted q k true t = rw (eqb-true k n t, silent q n e, and-false (ltb n n), and-false (ltb n n || eqb n n))
         same_noted q k false t = rw (t, or-false (ltb k n))
 
         go : (r : ℕ) → r < n + 1 → r < length c.subjects → (b : Bool) → eqb r n ≡ b

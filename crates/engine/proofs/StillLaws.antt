@@ -1,6 +1,6 @@
 -- Sweeps over the subjects that leave some as they are.
 use mathlib.Core.Path.{◌≡◌, refl, sym, ap, ◌∙◌}
-use mathlib.Core.Bool.{Bool, true, false, ◌&&◌, not, cond, and_true, and_false}
+use mathlib.Core.Bool.{Bool, true, false, ◌&&◌, not, cond, and-true, and-false}
 use mathlib.Core.List.{List}
 use Prim.Native.Nat.{ℕ, ◌+◌, ◌^◌, ◌<◌}
 use native.Mathlib.Omega.{arith}
@@ -70,8 +70,8 @@ module _ {A : Type 0} (f : ℕ → A → A) (d : A) (n : ℕ) where
       at : (k : ℕ) (b : Bool) → eqb k p.first ≡ b
           → cond (bit p.rest k) (f k (get_or (set now p.first x) k d)) (get_or (set now p.first x) k d)
           ≡ cond (bit left k) (f k (get_or now k d)) (get_or now k d)
-      at k true t = rw (rest_bits left p low is k, t, and_false (bit left k), eqb-true k p.first t, get_or-set_same now p.first x d below, holds) q
-      at k false t = rw (rest_bits left p low is k, t, and_true (bit left k), get_or-set_other now p.first k x d (eqb-false k p.first t))
+      at k true t = rw (rest_bits left p low is k, t, and-false (bit left k), eqb-true k p.first t, get_or-set_same now p.first x d below, holds) q
+      at k false t = rw (rest_bits left p low is k, t, and-true (bit left k), get_or-set_other now p.first k x d (eqb-false k p.first t))
 
   -- a turn
   pub left_turn : (l : List A) (mask : ℕ) (now : List A) (left : ℕ) (p : Parts) (x : A) → Left l mask now left → Least n left → p ≡ parted n left

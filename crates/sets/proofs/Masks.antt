@@ -1,7 +1,7 @@
 -- Laws of masks as sets of numbers below any width w: the bit of a changed set, the least member, how many, what is in one set and not in another.
 use mathlib.Core.Path.{◌≡◌, refl, sym, ap, subst, ◌∙◌}
 use mathlib.Core.Logic.{◌⊎◌, inl, inr}
-use mathlib.Core.Bool.{Bool, true, false, ◌&&◌, ◌||◌, not, cond, and_true, and_false, or-false}
+use mathlib.Core.Bool.{Bool, true, false, ◌&&◌, ◌||◌, not, cond, and-true, and-false, or-false}
 use mathlib.Core.List.{List, [], ◌∷◌}
 use Prim.Native.Nat.{ℕ, zero, suc, ◌+◌, ◌-◌, ◌*◌, ◌/◌, ◌%◌, ◌^◌, ◌≤◌, ◌<◌}
 use native.Mathlib.Nat.{le_trans, eq-or-lt_of_le, div-eq_of_lt, div-one, mod-lt, mul-le-mul_right, mul_comm, mul-sub, zero-add, one-mul, add-zero, add-suc, suc-add, suc-mul, pow-suc}
@@ -180,11 +180,11 @@ without_bit_lem : (m k j : ℕ) → bit m k ≡ true → bit (m - 2 ^ k) j ≡ (
 without_bit_lem m k j h = go (eqb j k) refl
   where
     go : (b : Bool) → eqb j k ≡ b → bit (m - 2 ^ k) j ≡ (bit m j && not (eqb j k))
-    go true e = rw (e, and_false (bit m j), eqb-true j k e) (out m k h).off
+    go true e = rw (e, and-false (bit m j), eqb-true j k e) (out m k h).off
     go false e =
         let same : bit m j ≡ bit (m - 2 ^ k) j =
         ap (λ (x : ℕ). bit x j) (sym (out m k h).back) ∙ bit_with (m - 2 ^ k) k j ∙ ap (λ (x : Bool). bit (m - 2 ^ k) j || x) e ∙ or-false _ in
-        rw (e, and_true (bit m j)) (sym same)
+        rw (e, and-true (bit m j)) (sym same)
 
 pub bit_without : (m k j : ℕ) → bit (without_bit m k) j ≡ (bit m j && not (eqb j k))
 unfolding without_bit
@@ -195,8 +195,8 @@ bit_without m k j = go (bit m k) refl
     go false h = rw h (more (eqb j k) refl)
       where
         more : (b : Bool) → eqb j k ≡ b → bit m j ≡ (bit m j && not (eqb j k))
-        more true e = rw (e, and_false (bit m j), eqb-true j k e) h
-        more false e = rw (e, and_true (bit m j))
+        more true e = rw (e, and-false (bit m j), eqb-true j k e) h
+        more false e = rw (e, and-true (bit m j))
 
 pub without_le : (m k : ℕ) → without_bit m k ≤ m
 unfolding without_bit

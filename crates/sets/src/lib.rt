@@ -1,4 +1,6 @@
 // What the layers share: tests, bytes and masks. Every function takes any values.
+#![tactic(auto)]
+
 ghost use Rattle.std.specs.Prelude.{◌≡◌, ◌&&◌, ◌||◌, cond, ◌+◌, ◌*◌, ltb, get_or, drop, length};
 ghost use Rattle.sets.specs.Tests.{within, same, all_zero, none_from};
 ghost use Rattle.sets.specs.Masks.{bit, with_bit, others, parted};

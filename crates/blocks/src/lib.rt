@@ -1,4 +1,6 @@
 // Files in blocks of 512 bytes: the check, the blocks and their records, and the verdict on a file.
+#![tactic(auto)]
+
 mod checks;
 mod making;
 mod parts;

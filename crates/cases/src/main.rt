@@ -2,6 +2,8 @@
 // name, the refusal and the block: 0 0 where the file loads. A model that loads is written back
 // four times, and what came of each stands behind it. Then model P is edited, and each edit is
 // written. tools/make_cases.py makes the files.
+#![tactic(auto)]
+
 ghost use Rattle.std.specs.Prelude.{◌≤◌, length};
 
 mod back;

@@ -3,6 +3,8 @@
 //
 // This file only reads, calls and writes. What a piece of input prints and leaves is proved in pieces.rt, what a line says in
 // printed.rt and text.rt.
+#![tactic(auto)]
+
 ghost use Rattle.std.specs.Prelude.{◌≡◌, true, ◌+◌, ◌≤◌, length, take};
 ghost use Rattle.blocks.specs.declared.Verdict.TheVariants.{Good};
 ghost use Rattle.model.specs.Valid.{valid};

@@ -1,1 +1,2 @@
 // The demands of the test desk, as theorems. No code.
+#![tactic(auto)]

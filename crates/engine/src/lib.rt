@@ -1,4 +1,6 @@
 // The stepping: pools, configurations, and what the commands do to them, one by one or a whole tape.
+#![tactic(auto)]
+
 mod commands;
 mod configs;
 mod pools;

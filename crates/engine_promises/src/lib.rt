@@ -1,1 +1,2 @@
 // What is promised of configurations and steps, as theorems. No code.
+#![tactic(auto)]

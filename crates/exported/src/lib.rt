@@ -1,5 +1,7 @@
 // The engine for programs in other languages: a model as its file or its 17,843 bytes, a configuration as 2,992 bytes, numbers low byte first.
 // Nothing is assumed of the bytes. A call that is refused changes no byte of any buffer.
+#![tactic(auto)]
+
 ghost use Rattle.std.specs.Prelude.{◌≡◌, not, [], ◌∷◌, eqb};
 ghost use Rattle.engine.specs.pools.Sizes.{most_entries};
 ghost use Rattle.engine.specs.configs.Shares.{share_of};

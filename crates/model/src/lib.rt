@@ -1,4 +1,6 @@
 // The file reader: a model file's bytes, the model they say, and whether a model is valid.
+#![tactic(auto)]
+
 mod decoded;
 mod loading;
 mod made;

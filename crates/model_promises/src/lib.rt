@@ -1,1 +1,2 @@
 // What is promised of model files, as theorems. No code.
+#![tactic(auto)]

@@ -11,6 +11,8 @@
 // has 7 at each place before, and just enough places. The fourth byte of the first command says how the whole tape is given, if
 // it is 16 or a little more: 1 more with a model that is not valid, 2 more with a configuration that is not valid, 4 more with a
 // buffer of one place less.
+#![tactic(auto)]
+
 ghost use Rattle.std.specs.Prelude.{◌+◌, ◌*◌, ◌/◌, ◌≤◌, length};
 
 use engine::{Answer, Command, Config, Pool, Stepped, Subject};

@@ -1,0 +1,10 @@
+use Rattle.std.proofs.Common.{sym, rules}
+use native.Mathlib.Nat.{add-sub_cancel_left}
+use Rattle.blocks.proofs.BlockLaws.{block_here, block_gone}
+use Rattle.blocks.proofs.parts.block.Goals as goal
+
+pub returns-then-b-file : goal.returns-then-b-file
+returns-then-b-file c = rw add-sub_cancel_left (sym (block_here _ _ c.if-b-file.true))
+
+pub returns : goal.returns
+returns c = sym (block_gone _ _ c.if-b-file.false)

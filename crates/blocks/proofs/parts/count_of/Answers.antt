@@ -1,0 +1,19 @@
+use Rattle.std.proofs.Common.{◌≡◌, ◌-◌, ◌*◌, ◌≤◌, cond, eqb, sym, rules}
+use Rattle.sets.specs.Below.{sum_below}
+use Rattle.sets.proofs.Below.{sum_start, sum_turn, sum_end}
+use Rattle.blocks.specs.Blocks.{kind_of, used_of, count_of}
+use Rattle.blocks.proofs.parts.count_of.Goals as goal
+
+pub loop-b-init : goal.loop-b-init
+loop-b-init c = (search rules, search rules, sym (sum_start _))
+
+pub loop-b-preserved : goal.loop-b-preserved
+loop-b-preserved c =
+    let inv = c.loop-b.invariant in
+    (search rules, search rules, sum_turn _ _ _ _ inv.2 c.used_of.ensures)
+
+pub returns : goal.returns
+unfolding count_of
+returns c =
+    let inv = c.loop-b.invariant in
+    sum_end _ _ _ _ inv.0 c.loop-b-test.false inv.2

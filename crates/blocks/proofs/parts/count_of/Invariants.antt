@@ -1,0 +1,11 @@
+use Rattle.std.proofs.Common.{◌≡◌, ◌-◌, ◌*◌, ◌≤◌, cond, eqb, sym, rules}
+use Rattle.sets.specs.Below.{sum_below}
+use Rattle.sets.proofs.Below.{sum_start, sum_turn, sum_end}
+use Rattle.blocks.specs.Blocks.{kind_of, used_of, count_of}
+use Rattle.blocks.proofs.parts.count_of.Given as goal
+
+abbrev pub invariant-loop-b : goal.invariant-loop-b
+invariant-loop-b l = (l.b ≤ l.n) × (l.found ≤ 255 * l.b) × (l.found ≡ sum_below (λ a. cond (eqb (kind_of l.file a) l.k) (used_of l.file a) 0) l.b)
+
+abbrev pub decreases-loop-b : goal.decreases-loop-b
+decreases-loop-b l = l.n - l.b

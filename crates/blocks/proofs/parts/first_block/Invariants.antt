@@ -1,0 +1,11 @@
+use Rattle.std.proofs.Common.{◌≡◌, ◌-◌, ◌*◌, ◌≤◌, cond, ltb, sym, rules}
+use Rattle.sets.specs.Below.{sum_below, count_below}
+use Rattle.sets.proofs.Below.{sum_start, sum_turn, sum_end}
+use Rattle.blocks.specs.Blocks.{kind_of, first_block}
+use Rattle.blocks.proofs.parts.first_block.Given as goal
+
+abbrev pub invariant-loop-b : goal.invariant-loop-b
+invariant-loop-b l = (l.b ≤ l.n) × (l.first ≤ 255 * l.b) × (l.first ≡ sum_below (λ a. cond (ltb (kind_of l.file a) l.k) 1 0) l.b)
+
+abbrev pub decreases-loop-b : goal.decreases-loop-b
+decreases-loop-b l = l.n - l.b

@@ -12,7 +12,7 @@ pub use parts::{block, check_right, count_of, first_block, record, record_from, 
 pub use verdicts::{place, refusal};
 
 // Whether a file is good, and if not, what is wrong and in which block.
-#[derive(Drop)]
+#[derive(Clone, Copy)]
 pub enum Verdict {
     Good,
     Length,

@@ -33,7 +33,7 @@ const OUTPUT: usize = 147 * COMMANDS;
 const FILE: usize = 44 * 512;
 
 // A tape served: the configuration behind it, and how long its text is.
-#[derive(Drop)]
+#[derive(Clone, Copy)]
 pub struct Served {
     pub config: Config,
     pub length: usize,
@@ -41,7 +41,7 @@ pub struct Served {
 
 // Between two pieces of input: the configuration, how many bytes are held over, the number of the next line, and how long
 // the text of the last piece is.
-#[derive(Drop)]
+#[derive(Clone, Copy)]
 pub struct Serving {
     pub config: Config,
     pub held: usize,

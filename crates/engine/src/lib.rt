@@ -18,7 +18,7 @@ pub use steps::{run, step, step_coded};
 pub const MOST_ENTRIES: usize = 16;
 
 // An entry: a message with its content, or a reservation, whose content is 0.
-#[derive(Drop)]
+#[derive(Clone, Copy)]
 pub struct Entry {
     pub sender: u8,
     pub typ: u8,
@@ -27,21 +27,21 @@ pub struct Entry {
 }
 
 // A pool: its entries in order of arrival, unused places zero.
-#[derive(Drop)]
+#[derive(Clone, Copy)]
 pub struct Pool {
     pub entries: [Entry; MOST_ENTRIES],
     pub count: u8,
 }
 
 // What is taken out of a pool, and the pool without it.
-#[derive(Drop)]
+#[derive(Clone, Copy)]
 pub(crate) struct Taken {
     pub content: u32,
     pub pool: Pool,
 }
 
 // A subject at work. Mode 0 is asleep, 1 running, 2 ended properly, 3 ended improperly; closed has for each sender a mask of types.
-#[derive(Drop)]
+#[derive(Clone, Copy)]
 pub struct Subject {
     pub closed: [u32; MOST_SUBJECTS],
     pub mode: u8,
@@ -53,13 +53,13 @@ pub struct Subject {
 }
 
 // All subjects at work; those that the model does not have are all zero.
-#[derive(Drop)]
+#[derive(Clone, Copy)]
 pub struct Config {
     pub subjects: [Subject; MOST_SUBJECTS],
 }
 
 // What a call answers beside the configuration.
-#[derive(Drop)]
+#[derive(Clone, Copy)]
 pub enum Answer {
     Done,
     Reserved {
@@ -73,14 +73,14 @@ pub enum Answer {
 }
 
 // The configuration beside the answer. A refused step hands back the configuration that went in.
-#[derive(Drop)]
+#[derive(Clone, Copy)]
 pub struct Stepped {
     pub config: Config,
     pub answer: Answer,
 }
 
 // The yes/no for a pool, or the refusal.
-#[derive(Drop)]
+#[derive(Clone, Copy)]
 pub enum Share {
     Yes,
     No,
@@ -88,7 +88,7 @@ pub enum Share {
 }
 
 // What the controller is told to do. Exits and words belong to the commands that use them.
-#[derive(Drop)]
+#[derive(Clone, Copy)]
 pub enum Command {
     Do { subject: u8, exit: u8, word: u32 },
     Reserve { subject: u8 },
@@ -101,7 +101,7 @@ pub enum Command {
 }
 
 // What a receiver answers to one who wants a place.
-#[derive(Drop)]
+#[derive(Clone, Copy)]
 pub enum Reply {
     Placed,
     Improper,
@@ -110,7 +110,7 @@ pub enum Reply {
 }
 
 // The sender's mask as it grows, and who answered what.
-#[derive(Drop)]
+#[derive(Clone, Copy)]
 pub(crate) struct Places {
     pub mask: u16,
     pub placed: u16,
@@ -120,14 +120,14 @@ pub(crate) struct Places {
 }
 
 // A subject that a command has reached, and what the receivers have answered so far.
-#[derive(Drop)]
+#[derive(Clone, Copy)]
 pub(crate) struct Reached {
     pub subject: Subject,
     pub places: Places,
 }
 
 // What is decided of a command before anything changes: its refusal, where it leads, how many wait one more, whom it reaches.
-#[derive(Drop)]
+#[derive(Clone, Copy)]
 pub(crate) struct Plan {
     pub number: u8,
     pub target: u8,
@@ -136,7 +136,7 @@ pub(crate) struct Plan {
 }
 
 // A command as it stood on the tape: its code, the subject that its line shows, and the command.
-#[derive(Drop)]
+#[derive(Clone, Copy)]
 pub(crate) struct Coded {
     pub code: u8,
     pub shown: u8,
@@ -144,7 +144,7 @@ pub(crate) struct Coded {
 }
 
 // What is written of a command.
-#[derive(Drop)]
+#[derive(Clone, Copy)]
 pub struct Line {
     pub refusal: u8,
     pub state: u8,

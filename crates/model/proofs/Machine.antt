@@ -18,7 +18,7 @@ use Rattle.model.specs.contracts.Stored as stored
 use Rattle.model.specs.contracts.Subject as subject
 
 rows_held : (x : Subject) (vs : List Val) → Is (row subject.the_type) x vs → length x.row ≡ 8
-rows_held x vs p = sym (length-map x.row _) ∙ p.1.1.1.1.1.0.1.0.1
+rows_held x vs p = p.1.1.1.1.1.0.1.0.1
 
 after_held : (x : Stored) (vs : List Val) → Is (row stored.the_type) x vs → x.after < 65536
 after_held x vs p = p.1.1.1.1.1.1.0.1
@@ -28,14 +28,14 @@ machine_held m vs p =
     let subjects = p.1.1.1.1.0 in
     let states = p.1.1.1.1.1.0 in
     let exits = p.1.1.1.1.1.1 in
-    let some : length m.subjects ≡ 16 = sym (length-map m.subjects _) ∙ subjects.1.0.1 in
-    let all : length m.states ≡ 512 = sym (length-map m.states _) ∙ states.1.0.1 in
+    let some : length m.subjects ≡ 16 = subjects.1.0.1 in
+    let all : length m.states ≡ 512 = states.1.0.1 in
     record {
       subjects = some;
       states = all;
-      rows = λ s l. let q = each_at _ _ _ m.subjects subjects.0 subjects.1.1 s no_subject (omega arith) in rows_held (subject_at m s) _ q.1;
-      targets = sym (length-map m.targets _) ∙ exits.0.1.0.1;
-      senders = sym (length-map m.senders _) ∙ exits.1.0.1.0.1;
-      types = sym (length-map m.types _) ∙ exits.1.1.0.1.0.1;
-      afters = λ i l. let q = each_at _ _ _ m.states states.0 states.1.1 i blank_stored (omega arith) in after_held (stored_at m i) _ q.1;
+      rows = λ s l. let q = each_at _ (subject.the_row).own_val m.subjects subjects.0 subjects.1.1 s no_subject (omega arith) in rows_held (subject_at m s) _ q.1;
+      targets = exits.0.1.0.1;
+      senders = exits.1.0.1.0.1;
+      types = exits.1.1.0.1.0.1;
+      afters = λ i l. let q = each_at _ (stored.the_row).own_val m.states states.0 states.1.1 i blank_stored (omega arith) in after_held (stored_at m i) _ q.1;
     }

@@ -22,7 +22,7 @@ pub use valid::is_valid;
 pub use writing::write;
 
 // An exit of a state: where it leads; of a receive the sender and the type, of a send the type.
-#[derive(Drop)]
+#[derive(Clone, Copy)]
 pub struct Exit {
     pub target: u8,
     pub sender: u8,
@@ -30,7 +30,7 @@ pub struct Exit {
 }
 
 // A limit row of a subject: how many entries from a sender and of a type its pool may hold.
-#[derive(Drop)]
+#[derive(Clone, Copy)]
 pub struct Row {
     pub sender: u8,
     pub typ: u8,
@@ -38,7 +38,7 @@ pub struct Row {
 }
 
 // A state with its exits: its kind, how many exits it has, its other fields, and the exits.
-#[derive(Drop)]
+#[derive(Clone, Copy)]
 pub struct State {
     pub kind: u8,
     pub exits: u8,
@@ -52,7 +52,7 @@ pub struct State {
 }
 
 // A subject: how many states it has, the initial one, the number of its limit rows, and the rows.
-#[derive(Drop)]
+#[derive(Clone, Copy)]
 pub struct Subject {
     pub states: u8,
     pub initial: u8,
@@ -61,7 +61,7 @@ pub struct Subject {
 }
 
 // A state as a model keeps it: its fields, and where its exits begin among those of the model.
-#[derive(Drop)]
+#[derive(Clone, Copy)]
 pub struct Stored {
     pub kind: u8,
     pub exits: u8,
@@ -76,7 +76,7 @@ pub struct Stored {
 
 // A model of n subjects: state t of subject s is at place s * MOST_STATES + t. The exits of all states stand in one line, their
 // targets, senders and types each for itself. Unused room is zero.
-#[derive(Drop)]
+#[derive(Clone, Copy)]
 pub struct Model {
     pub n: u8,
     pub start: u16,
@@ -88,7 +88,7 @@ pub struct Model {
 }
 
 // What writing a model came to: the length of its file in bytes, or why nothing was written.
-#[derive(Drop)]
+#[derive(Clone, Copy)]
 pub enum Written {
     Bytes(usize),
     NotValid,
@@ -96,7 +96,7 @@ pub enum Written {
 }
 
 // The model beside the verdict: the empty one where the file is refused.
-#[derive(Drop)]
+#[derive(Clone, Copy)]
 pub struct Loaded {
     pub model: Model,
     pub verdict: Verdict,

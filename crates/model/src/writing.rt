@@ -15,7 +15,7 @@ use super::sizes::{
 use super::{Model, Stored, Subject, Written, made, unpacked, valid};
 
 // Where the next record goes: its block, and how many records that block has already.
-#[derive(Drop)]
+#[derive(Clone, Copy)]
 pub(crate) struct Line {
     pub block: usize,
     pub used: usize,
@@ -147,7 +147,7 @@ fn write_limits(m: Model, buffer: &mut [u8], block: usize)
 }
 
 // How many states the subjects have, and how many limit rows.
-#[derive(Drop)]
+#[derive(Clone, Copy)]
 pub(crate) struct Counts {
     pub states: usize,
     pub rows: usize,

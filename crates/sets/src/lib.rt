@@ -6,14 +6,14 @@ ghost use Rattle.sets.specs.Tests.{within, same, all_zero, none_from};
 ghost use Rattle.sets.specs.Masks.{bit, with_bit, others, parted};
 
 // What a search finds.
-#[derive(Drop)]
+#[derive(Clone, Copy)]
 pub enum Found {
     At(usize),
     Nothing,
 }
 
 // The lowest member of a mask, and the mask of the others.
-#[derive(Drop)]
+#[derive(Clone, Copy)]
 pub struct Parts {
     pub first: u8,
     pub rest: u16,

@@ -1,0 +1,26 @@
+use mathlib.Core.Path.{◌≡◌, ◌∙◌}
+use mathlib.Core.Bool.{cond}
+use Prim.Native.Nat.{◌+◌, ◌≤◌, ◌-◌}
+use lib.Dec.{ltb}
+use Rattle.sets.specs.Below.{filled}
+use Rattle.sets.specs.Groups.{in_places}
+use Rattle.sets.proofs.Below.{fill_start, fill_turn, fill_end}
+use Rattle.blocks.specs.Blocks.{record_from}
+use Rattle.model.specs.Records.{row_of, blank_row}
+use Rattle.model.specs.Decoded.{rows_from}
+use borrow.Author.Rules.{rules}
+use Rattle.model.proofs.decoded.rows_from.Goals as goal
+
+pub loop-k-init : goal.loop-k-init
+loop-k-init c = (search rules, c.blank_rows-row.ensures ∙ fill_start _ _ _)
+
+pub loop-k-preserved : goal.loop-k-preserved
+loop-k-preserved c =
+    let inv = c.loop-k.invariant in
+    (search rules, rw inv.1 (fill_turn _ _ _ _ _ c.loop-k-test.true c.row_from.ensures))
+
+pub returns : goal.returns
+unfolding rows_from in_places
+returns c =
+    let inv = c.loop-k.invariant in
+    inv.1 ∙ fill_end _ _ _ _ inv.0 c.loop-k-test.false

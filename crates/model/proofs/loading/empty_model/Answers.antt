@@ -1,0 +1,7 @@
+use Rattle.model.specs.Loading.{empty_model}
+use borrow.Author.Rules.{rules}
+use Rattle.model.proofs.loading.empty_model.Goals as goal
+
+pub returns : goal.returns
+unfolding empty_model
+returns c = rw (c.blank_subject-subject.ensures, c.blank_stored-state.ensures)

@@ -1,0 +1,5 @@
+use borrow.Author.Rules.{rules}
+use Rattle.model.proofs.loading.not_loaded.Goals as goal
+
+pub returns : goal.returns
+returns c = rw c.empty_model.ensures

@@ -1,0 +1,7 @@
+use Rattle.model.specs.Rules.{row_reaches}
+use borrow.Author.Rules.{rules}
+use Rattle.model.proofs.rules.row_reaches.Goals as goal
+
+pub returns : goal.returns
+unfolding row_reaches
+returns c = c.there_or_any.ensures

@@ -1,0 +1,5 @@
+use borrow.Author.Rules.{rules}
+use Rattle.model.proofs.stages.kind_of.Goals as goal
+
+pub returns : goal.returns
+returns c = rw (c.byte.ensures, c.block.ensures)

@@ -1,0 +1,7 @@
+use mathlib.Core.Path.{ap, ◌∙◌}
+use borrow.Author.Rules.{rules}
+use Rattle.model.specs.Records.{with_exits}
+use Rattle.model.proofs.unpacked.unpack.Goals as goal
+
+pub returns : goal.returns
+returns c = c.with_exits.ensures ∙ ap (with_exits _) c.exits_from-exit.ensures

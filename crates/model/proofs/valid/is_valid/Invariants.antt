@@ -1,0 +1,41 @@
+use Prim.Native.Nat.{ℕ, ◌+◌, ◌*◌, ◌-◌, ◌≤◌, ◌<◌}
+use mathlib.Core.Path.{◌≡◌, sym, ap, subst, ◌∙◌}
+use mathlib.Core.Bool.{Bool, true, false, ◌&&◌}
+use native.Mathlib.Nat.{add-zero}
+use native.Mathlib.Omega.{arith}
+use lib.Dec.{eqb}
+use borrow.Author.Tests.{eq-eqb, ne_eqb}
+use borrow.Author.Rules.{rules}
+use Rattle.sets.specs.Below.{all_below, sum_below}
+use Rattle.sets.specs.Tests.{within}
+use Rattle.sets.proofs.Arrays.{each_holds}
+use Rattle.sets.proofs.Below.{all_start, all_more, all_end, sum_start, sum_bound}
+use Rattle.sets.proofs.Tests.{and_true}
+use Rattle.model.specs.Records.{blank_stored, with_exits}
+use Rattle.model.specs.Valid.{subject_at, stored_at, state_at, stored_valid, start_right, subject_right, state_right, exits_before, valid}
+use Rattle.model.specs.declared.Model.{Model}
+use Rattle.model.proofs.valid.is_valid.Given as goal
+
+-- the subjects before s and their places are right, and their exits are counted
+abbrev pub invariant-loop-s : goal.invariant-loop-s
+invariant-loop-s l =
+    (l.s ≤ 16) × (all_below (subject_right l.m) l.s ≡ true) × (all_below (state_right l.m) (l.s * 32) ≡ true) × (l.exits ≡ sum_below (λ q. (state_at l.m q).exits) (l.s * 32))
+
+abbrev pub decreases-loop-s : goal.decreases-loop-s
+decreases-loop-s l = 16 - l.s
+
+-- the places before t of subject s are right, and their exits are counted
+abbrev pub invariant-loop-t : goal.invariant-loop-t
+invariant-loop-t l =
+    (l.t ≤ l.states) × (all_below (state_right l.m) (l.s * 32 + l.t) ≡ true) × (l.exits ≡ sum_below (λ q. (state_at l.m q).exits) (l.s * 32 + l.t))
+
+abbrev pub decreases-loop-t : goal.decreases-loop-t
+decreases-loop-t l = l.states - l.t
+
+-- they are right exactly where the bits so far are none
+abbrev pub invariant-loop-t-2 : goal.invariant-loop-t-2
+invariant-loop-t-2 l =
+    (l.states ≤ l.t) × (l.t ≤ 32) × (all_below (state_right l.m) (l.s * 32 + l.t) ≡ eqb l.own 0) × (all_below (state_right l.m) (l.s * 32 + l.t) ≡ true → l.exits ≡ sum_below (λ q. (state_at l.m q).exits) (l.s * 32 + l.t))
+
+abbrev pub decreases-loop-t-2 : goal.decreases-loop-t-2
+decreases-loop-t-2 l = 32 - l.t

@@ -1,9 +1,0 @@
-use borrow.Author.Rules.{rules}
-use Rattle.model.proofs.valid.start_right.Statement.{statement}
-use Rattle.model.proofs.valid.start_right.Tie as tie
-
-returns : tie.Need-returns
-returns c = rw (c.both.ensures, c.before.none_from_lem.ensures)
-
-pub start-right-spec : {M : Type 1} → statement M
-start-right-spec = tie.close (tie.spec (λ c κs. search rules) (λ c κs. search rules) returns)

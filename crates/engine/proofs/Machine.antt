@@ -21,13 +21,13 @@ subject_held x vs p =
     let mask = fields.1.1.1.1.1.0 in
     let pool = fields.1.1.1.1.1.1.0 in
     record {
-      marks = sym (length-map x.closed _) ∙ closed.1.0.1;
-      entries = sym (length-map x.pool.entries _) ∙ pool.1.1.0.1.0.1;
+      marks = closed.1.0.1;
+      entries = pool.1.1.0.1.0.1;
       mask = mask.1;
     }
 
 pub machine_held : (c : Config) (vs : List Val) → Is (row config.the_type) c vs → Held c
 machine_held c vs p =
     let array = p.1.1.0 in
-    let n : length c.subjects ≡ 16 = sym (length-map c.subjects _) ∙ array.1.0.1 in
-    held_by c n (λ s l. let q = each_at _ _ _ c.subjects array.0 array.1.1 s no_one (omega arith) in subject_held (at c s) _ q.1)
+    let n : length c.subjects ≡ 16 = array.1.0.1 in
+    held_by c n (λ s l. let q = each_at _ (subject.the_row).own_val c.subjects array.0 array.1.1 s no_one (omega arith) in subject_held (at c s) _ q.1)

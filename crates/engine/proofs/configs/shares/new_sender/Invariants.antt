@@ -1,0 +1,16 @@
+use Prim.Native.Nat.{◌≤◌, ◌-◌}
+use mathlib.Core.Path.{sym, ap, ◌≡◌}
+use mathlib.Core.Bool.{true, not}
+use borrow.Author.Tests.{eq-eqb, ne_eqb}
+use borrow.Author.Rules.{rules}
+use lib.Dec.{eqb}
+use Rattle.sets.specs.Below.{all_below}
+use Rattle.sets.proofs.Below.{all_start, all_more, all_stop, all_end}
+use Rattle.model.specs.Valid.{row_at}
+use Rattle.engine.proofs.configs.shares.new_sender.Given as goal
+
+abbrev pub invariant-loop-j : goal.invariant-loop-j
+invariant-loop-j l = (l.j ≤ l.k) × (all_below (λ i. not (eqb (row_at l.own i).sender (row_at l.own l.k).sender)) l.j ≡ true)
+
+abbrev pub decreases-loop-j : goal.decreases-loop-j
+decreases-loop-j l = l.k - l.j

@@ -1,0 +1,14 @@
+use mathlib.Core.Path.{sym, ◌∙◌}
+use borrow.Author.Tests.{not-true, not-false}
+use borrow.Author.Rules.{rules}
+use Rattle.engine.specs.configs.Subjects.{zero_config}
+use Rattle.engine.specs.configs.Fresh.{fresh_of}
+use Rattle.engine.proofs.configs.starts.fresh.Goals as goal
+
+pub returns-then-not-is_valid : goal.returns-then-not-is_valid
+unfolding fresh_of zero_config
+returns-then-not-is_valid c = rw (sym c.is_valid.ensures ∙ c.if-not-is_valid.true, c.nobody.ensures)
+
+pub returns : goal.returns
+unfolding fresh_of
+returns c = rw (sym c.is_valid.ensures ∙ c.if-not-is_valid.false, c.fresh_config.ensures)

@@ -1,0 +1,36 @@
+use mathlib.Core.Path.{◌≡◌, refl, sym, ◌∙◌}
+use mathlib.Core.Bool.{Bool, true, false, ◌&&◌, not, cond}
+use Prim.Native.Nat.{ℕ}
+use borrow.Author.Rules.{rules}
+use lib.Dec.{eqb}
+use Rattle.sets.specs.Lists.{counted}
+use Rattle.sets.specs.Masks.{bit}
+use Rattle.engine.specs.pools.Pools.{held, reservations}
+use Rattle.engine.specs.declared.Pool.{Pool}
+use Rattle.engine.specs.configs.Valid.{place_right}
+use Rattle.engine.proofs.configs.valid.place_right.Goals as goal
+
+-- an empty pool holds no reservation
+empty : (s t : ℕ) (p : Pool) → p.count ≡ 0 → reservations s t (held p) ≡ 0
+unfolding reservations held counted
+empty s t p e = rw e
+
+-- both counts are 0, which is right where r has no place
+neither : (b : Bool) → (eqb 0 (cond b 1 0) && eqb 0 (cond b 1 0)) ≡ not b
+neither true = refl
+neither false = refl
+
+pub returns-then-p-eq0 : goal.returns-then-p-eq0
+unfolding place_right
+returns-then-p-eq0 c =
+    let a = c.args in
+    rw (empty a.s 255 a.p c.if-p-eq0.true, empty a.s a.typ a.p c.if-p-eq0.true, c.has-placed.ensures)
+    (sym (neither (bit a.mask a.r)))
+
+pub returns-then-placed : goal.returns-then-placed
+unfolding place_right
+returns-then-placed c = rw (sym c.has-placed.ensures ∙ c.if-placed.true, c.both.ensures, c.reservations-own.ensures, c.reservations-all.ensures)
+
+pub returns : goal.returns
+unfolding place_right
+returns c = rw (sym c.has-placed.ensures ∙ c.if-placed.false, c.both-2.ensures, c.reservations-own.ensures, c.reservations-all.ensures)

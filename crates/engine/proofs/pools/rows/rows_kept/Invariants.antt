@@ -1,0 +1,18 @@
+use Prim.Native.Nat.{◌≤◌, ◌-◌}
+use mathlib.Core.Path.{◌≡◌, sym, ◌∙◌}
+use mathlib.Core.Bool.{true, ◌||◌, not}
+use borrow.Author.Tests.{not-true, not-false}
+use borrow.Author.Rules.{rules}
+use lib.Dec.{ltb}
+use Rattle.sets.specs.Below.{all_below}
+use Rattle.sets.proofs.Below.{all_start, all_more, all_stop, all_end}
+use Rattle.model.specs.Valid.{row_at}
+use Rattle.engine.specs.pools.Pools.{held}
+use Rattle.engine.specs.pools.Rows.{row_kept, rows_kept}
+use Rattle.engine.proofs.pools.rows.rows_kept.Given as goal
+
+abbrev pub invariant-loop-k : goal.invariant-loop-k
+invariant-loop-k l = (l.k ≤ 8) × (all_below (λ j. not (ltb j l.owner.rows) || row_kept (held l.p) (row_at l.owner j)) l.k ≡ true)
+
+abbrev pub decreases-loop-k : goal.decreases-loop-k
+decreases-loop-k l = 8 - l.k

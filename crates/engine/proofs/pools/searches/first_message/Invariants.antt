@@ -1,0 +1,19 @@
+use Prim.Native.Nat.{◌≤◌, ◌-◌}
+use mathlib.Core.Path.{◌≡◌, refl, sym, ◌∙◌}
+use native.Mathlib.Omega.{arith}
+use borrow.Author.Rules.{rules}
+use lib.ListN.{length, drop}
+use Rattle.sets.specs.Lists.{first_from}
+use Rattle.sets.proofs.Lists.{find_end}
+use Rattle.engine.specs.pools.Entries.{is_message}
+use Rattle.engine.specs.pools.Pools.{held, first_message}
+use Rattle.sets.proofs.Arrays.{length_mapped}
+use Rattle.engine.proofs.pools.PoolLaws.{held_fits, search_hit, search_miss}
+use Rattle.engine.proofs.pools.searches.first_message.Given as goal
+
+abbrev pub invariant-loop-i : goal.invariant-loop-i
+invariant-loop-i l =
+    (l.n ≤ 16) × (l.i ≤ l.n) × (first_from l.i (is_message l.sender l.typ) (drop l.i (held l.p)) ≡ first_from 0 (is_message l.sender l.typ) (held l.p))
+
+abbrev pub decreases-loop-i : goal.decreases-loop-i
+decreases-loop-i l = l.n - l.i

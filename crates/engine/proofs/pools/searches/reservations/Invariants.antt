@@ -1,0 +1,19 @@
+use Prim.Native.Nat.{◌+◌, ◌≤◌, ◌-◌}
+use mathlib.Core.Path.{◌≡◌, refl, ap, ◌∙◌}
+use native.Mathlib.Omega.{arith}
+use borrow.Author.Rules.{rules}
+use lib.ListN.{length, take, length-take}
+use lib.Seq.{take_all}
+use Rattle.sets.specs.Lists.{counted}
+use Rattle.sets.proofs.Lists.{counted_bound}
+use Rattle.engine.specs.pools.Entries.{reserved_by}
+use Rattle.engine.specs.pools.Pools.{held, reservations}
+use Rattle.sets.proofs.Arrays.{length_mapped}
+use Rattle.engine.proofs.pools.PoolLaws.{held_fits, count_turn}
+use Rattle.engine.proofs.pools.searches.reservations.Given as goal
+
+abbrev pub invariant-loop-i : goal.invariant-loop-i
+invariant-loop-i l = (l.n ≤ 16) × (l.i ≤ l.n) × (l.found ≡ counted (reserved_by l.sender l.typ) (take l.i (held l.p)))
+
+abbrev pub decreases-loop-i : goal.decreases-loop-i
+decreases-loop-i l = l.n - l.i

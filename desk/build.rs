@@ -30,6 +30,6 @@ fn archive() -> PathBuf {
     let here = PathBuf::from(std::env::var_os("CARGO_MANIFEST_DIR").unwrap_or_default());
     match std::env::var_os("DESK_PROVED") {
         Some(path) => here.join(path),
-        None => here.join("../target/staticlib/libexported.a"),
+        None => here.join("../crates/exported/out/libexported.a"),
     }
 }

@@ -13,15 +13,41 @@ import pathlib
 import re
 import sys
 
-# A head ends where its body begins: on a line of its own where there is a contract, else behind the parameters.
-FUNCTION = re.compile(r'^[ \t]*pub (?:extern "C" )?fn (\w+)(.*?)(?:\n[ \t]*| )\{\n', re.MULTILINE | re.DOTALL)
+# What stands before a function's name, without the space before it.
+FUNCTION = re.compile(r'^[ \t]*pub (?:(?:const|unsafe|extern "C") )*fn (\w+)', re.MULTILINE)
+# Comments, texts and characters, in which no word and no brace counts.
+UNREAD = re.compile(r"""//[^\n]*|"(?:[^"\\]|\\.)*"|'(?:[^'\\\n]|\\.)'""")
+# What stands before the brace of a clause: its kind, with a star where it speaks of memory, and perhaps its name.
+CLAUSE = re.compile(r"\b(requires|ensures|ghost)\*?(?:\s+\w+)?\s*:?\s*$")
+OPENS, CLOSES = "([{", ")]}"
+
+
+def clauses_of(text, at):
+    """The kinds of the clauses of a function whose parameters come at some place, to its body or its `;`."""
+    found, depth, last = [], 0, at
+    while at < len(text):
+        if text[at] == "{" and depth == 0:
+            clause = CLAUSE.search(text, last, at)
+            if not clause:
+                return found
+            found.append(clause[1])
+        if text[at] == ";" and depth == 0:
+            return found
+        if text[at] in OPENS:
+            depth += 1
+        elif text[at] in CLOSES:
+            depth -= 1
+            last = at + 1
+        at += 1
+    return found
 
 
 def public_functions(crate):
-    """The name and the head, from its parameters to its body, of each public function of a crate."""
+    """The name and the kinds of the clauses of each public function of a crate."""
     for source in sorted((crate / "src").glob("**/*.rt")):
-        for name, head in FUNCTION.findall(source.read_text()):
-            yield name, head
+        text = UNREAD.sub(lambda part: '"C"' if part[0] == '"C"' else "", source.read_text())
+        for function in FUNCTION.finditer(text):
+            yield function[1], clauses_of(text, function.end())
 
 
 def sections(page):
@@ -38,11 +64,11 @@ def row_of(rows, name):
     return next((row for row in rows if re.search(rf"\b{name}\(", row.split(" | ")[0])), None)
 
 
-def faults_of(crate, name, head, rows):
+def faults_of(crate, name, clauses, rows):
     """What is wrong with one public function."""
-    if "requires" in head:
+    if "requires" in clauses:
         yield "has a `requires`"
-    if "ensures" not in head:
+    if "ensures" not in clauses:
         yield "has no `ensures`"
     row = row_of(rows, name)
     if row is None:
@@ -69,10 +95,10 @@ def main():
         if not (crate / "src" / "lib.rt").exists():
             continue
         there[crate.name] = set()
-        for name, head in public_functions(crate):
+        for name, clauses in public_functions(crate):
             count += 1
             there[crate.name].add(name)
-            for fault in faults_of(crate, name, head, listed.get(crate.name, [])):
+            for fault in faults_of(crate, name, clauses, listed.get(crate.name, [])):
                 wrong.append(f"{crate.name}::{name} {fault}")
     for title, rows in listed.items():
         for name in listed_calls(rows):

@@ -23,9 +23,9 @@ pub trait Engine {
 /// How to get the proved engine where it is missing.
 #[cfg(not(proved))]
 pub const MISSING: &str = "\
-this desk was built without the proved engine. On x86-64 make its archive with 'rt staticlib exported' in the repository's
-root (it is looked for at ../target/staticlib/libexported.a, or where the environment variable DESK_PROVED says), then
-build the desk again: 'cargo build --release'. The archive is for Linux on x86-64 and links into no other program";
+this desk was built without the proved engine. On x86-64 make its archive with 'rt lib' in crates/exported of the repository
+(it is looked for at ../crates/exported/out/libexported.a, or where the environment variable DESK_PROVED says), then build
+the desk again: 'cargo build --release'. The archive is for Linux on x86-64 and links into no other program";
 
 /// The proved engine, or how to get it.
 #[cfg(not(proved))]

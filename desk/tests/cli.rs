@@ -185,7 +185,7 @@ fn says_how_to_get_the_proved_engine() {
     for words in [&["compare", "--cases", "20"], &["bench", "--runs", "1"]] {
         let o = desk(words);
         assert_eq!(o.status.code(), Some(2));
-        assert!(err(&o).contains("'rt staticlib exported' in the repository's"));
+        assert!(err(&o).contains("'rt lib' in crates/exported of the repository"));
         assert!(out(&o).is_empty());
     }
 }

@@ -12,7 +12,7 @@ use lib.ListN.{length, get_or}
 use Rattle.sets.specs.Below.{all_below}
 use Rattle.sets.specs.Lists.{all_of}
 use Rattle.sets.specs.Masks.{bit}
-use Rattle.sets.proofs.Tests.{and-true, and_both, not_both, is_false}
+use Rattle.sets.proofs.Tests.{and_true, and_both, not_both, is_false}
 use Rattle.sets.proofs.Below.{all_each, all_by}
 use Rattle.sets.proofs.Lists.{all_of_at, all_of_by, all_of_weaker, counted_same, none_counted}
 use Rattle.model.specs.Rules.{any}
@@ -157,7 +157,7 @@ module _ (m : Model) (owner : ℕ) (shares : is_yes (share_of most_entries m own
       unfolding has_room
       room_below free l =
           let own = subject_at m owner in
-          and-true
+          and_true
           (lt-ltb (length es) most_entries free)
           (all_by (λ k. not (ltb k own.rows) || row_has_room s typ es (row_at own k)) most_rows (λ k _. true_if (ltb k own.rows) (row_has_room s typ es (row_at own k)) (λ t. each k (ltb-true k own.rows t))))
         where

@@ -1,0 +1,23 @@
+use mathlib.Core.Path.{◌≡◌, refl, sym, ap, ◌∙◌}
+use Prim.Native.Nat.{◌*◌, ◌-◌, ◌≤◌}
+use borrow.Author.Rules.{rules}
+use lib.ListN.{drop}
+use Rattle.sets.specs.Below.{filled}
+use Rattle.sets.proofs.Below.{fill_start, fill_turn, fill_end}
+use Rattle.engine.specs.pools.Entries.{blank_entry}
+use Rattle.exported.specs.Bytes.{entry_from, entries_from}
+use Rattle.exported.proofs.config_bytes.entries_from.Goals as goal
+
+pub loop-i-init : goal.loop-i-init
+loop-i-init c = (search rules, fill_start _ _ _)
+
+pub loop-i-preserved : goal.loop-i-preserved
+loop-i-preserved c =
+    let inv = c.loop-i.invariant in
+    (search rules, rw inv.1 (fill_turn _ _ _ _ _ c.loop-i-test.true (c.entry_from.ensures ∙ ap entry_from c.rest.ensures)))
+
+pub returns : goal.returns
+unfolding entries_from
+returns c =
+    let inv = c.loop-i.invariant in
+    inv.1 ∙ fill_end _ _ _ _ inv.0 c.loop-i-test.false

@@ -1,0 +1,15 @@
+use mathlib.Core.Path.{◌≡◌, refl, sym, ap, ◌∙◌}
+use Prim.Native.Nat.{◌*◌, ◌-◌, ◌≤◌}
+use borrow.Author.Rules.{rules}
+use lib.ListN.{drop}
+use Rattle.sets.specs.Below.{filled}
+use Rattle.sets.proofs.Below.{fill_start, fill_turn, fill_end}
+use Rattle.engine.specs.pools.Entries.{blank_entry}
+use Rattle.exported.specs.Bytes.{entry_from, entries_from}
+use Rattle.exported.proofs.config_bytes.entries_from.Given as goal
+
+abbrev pub invariant-loop-i : goal.invariant-loop-i
+invariant-loop-i l = (l.i ≤ 16) × (l.entries ≡ filled (λ k. entry_from (drop (7 * k) l.b)) blank_entry 16 l.i)
+
+abbrev pub decreases-loop-i : goal.decreases-loop-i
+decreases-loop-i l = 16 - l.i

@@ -1,0 +1,17 @@
+use mathlib.Core.Path.{◌≡◌, refl, ap, ◌∙◌}
+use Prim.Native.Nat.{◌-◌, ◌≤◌}
+use native.Mathlib.Omega.{arith}
+use borrow.Author.Rules.{rules}
+use lib.ListN.{length}
+use Rattle.model.specs.Valid.{state_at}
+use Rattle.sets.specs.Stores.{each_of, stored}
+use Rattle.exported.specs.Bytes.{state_bytes}
+use Rattle.sets.proofs.Stores.{stored_same, each_start, each_turn, each_end}
+use Rattle.exported.proofs.ByteLaws.{length_state}
+use Rattle.exported.proofs.model_bytes.put_states.Given as goal
+
+abbrev pub invariant-loop-i : goal.invariant-loop-i
+invariant-loop-i l = (l.i ≤ 512) × (length l.room ≡ length l.initial.room) × (l.room ≡ stored l.initial.room 435 (each_of (λ k. state_bytes (state_at l.m k)) l.i))
+
+abbrev pub decreases-loop-i : goal.decreases-loop-i
+decreases-loop-i l = 512 - l.i

@@ -1,0 +1,17 @@
+use mathlib.Core.Path.{◌≡◌, refl, ◌∙◌}
+use Prim.Native.Nat.{◌-◌, ◌≤◌}
+use native.Mathlib.Omega.{arith}
+use borrow.Author.Rules.{rules}
+use lib.ListN.{length}
+use Rattle.model.specs.Valid.{subject_at}
+use Rattle.sets.specs.Stores.{each_of, stored}
+use Rattle.exported.specs.Bytes.{own_bytes}
+use Rattle.sets.proofs.Stores.{each_start, each_turn, each_end}
+use Rattle.exported.proofs.ByteLaws.{length_own}
+use Rattle.exported.proofs.model_bytes.put_subjects.Given as goal
+
+abbrev pub invariant-loop-s : goal.invariant-loop-s
+invariant-loop-s l = (l.s ≤ 16) × (length l.room ≡ length l.initial.room) × (l.room ≡ stored l.initial.room 3 (each_of (λ k. own_bytes (subject_at l.m k)) l.s))
+
+abbrev pub decreases-loop-s : goal.decreases-loop-s
+decreases-loop-s l = 16 - l.s

@@ -1,0 +1,22 @@
+use mathlib.Core.List.{[], ◌∷◌}
+use native.Mathlib.Omega.{arith}
+use borrow.Author.Rules.{rules}
+use Rattle.exported.specs.Bytes.{word_bytes}
+use Rattle.sets.proofs.Stores.{chained, chained_from, chained_stored, in_chain}
+use Rattle.exported.proofs.numbers.put_word.Goals as goal
+
+pub bounds-room-p-2 : goal.bounds-room-p-2
+unfolding chained chained_from
+bounds-room-p-2 c = in_chain c.args.room.now c.args.p (_ ∷ []) _ (omega (arith, c.requires))
+
+pub bounds-room-p-3 : goal.bounds-room-p-3
+unfolding chained chained_from
+bounds-room-p-3 c = in_chain c.args.room.now c.args.p (_ ∷ _ ∷ []) _ (omega (arith, c.requires))
+
+pub bounds-room-p-4 : goal.bounds-room-p-4
+unfolding chained chained_from
+bounds-room-p-4 c = in_chain c.args.room.now c.args.p (_ ∷ _ ∷ _ ∷ []) _ (omega (arith, c.requires))
+
+pub returns : goal.returns
+unfolding chained chained_from
+returns c = chained_stored _ _ (word_bytes c.args.x)

@@ -1,0 +1,23 @@
+use mathlib.Core.Path.{◌≡◌, refl, sym, ap, ◌∙◌}
+use borrow.Author.Rules.{rules}
+use Rattle.blocks.specs.Verdicts as verdicts
+use Rattle.model.specs.declared.Loaded.{Loaded}
+use Rattle.model.specs.Loading.{loaded}
+use Rattle.engine.specs.configs.Fresh.{fresh_of}
+use Rattle.exported.proofs.CallLaws.{fresh_refused, fresh_short, fresh_done}
+use Rattle.exported.proofs.zs_fresh.Goals as goal
+
+pub returns-then-refusal-ne0 : goal.returns-then-refusal-ne0
+returns-then-refusal-ne0 c =
+    let verdict : c.refusal.result ≡ verdicts.refusalOf (loaded c.args.file.now).verdict = (c.refusal.ensures ∙ ap (λ (x : Loaded). verdicts.refusalOf x.verdict) c.load-loaded.ensures) in
+    fresh_refused _ _ _ verdict c.if-refusal-ne0.true
+
+pub returns-then-config-lt-CONFIG : goal.returns-then-config-lt-CONFIG
+returns-then-config-lt-CONFIG c =
+    let verdict : c.refusal.result ≡ verdicts.refusalOf (loaded c.args.file.now).verdict = (c.refusal.ensures ∙ ap (λ (x : Loaded). verdicts.refusalOf x.verdict) c.load-loaded.ensures) in
+    fresh_short _ _ _ verdict c.if-refusal-ne0.false c.if-config-lt-CONFIG.true
+
+pub returns : goal.returns
+returns c =
+    let verdict : c.refusal.result ≡ verdicts.refusalOf (loaded c.args.file.now).verdict = (c.refusal.ensures ∙ ap (λ (x : Loaded). verdicts.refusalOf x.verdict) c.load-loaded.ensures) in
+    fresh_done _ _ _ verdict c.if-refusal-ne0.false c.if-config-lt-CONFIG.false _ _ (c.fresh-start.ensures ∙ ap (λ (x : Loaded). fresh_of x.model) c.load-loaded.ensures) c.put_config.ensures

@@ -25,14 +25,17 @@ overflow_add-number c =
 pub returns-then-number-ne0 : goal.returns-then-number-ne0
 returns-then-number-ne0 c =
     let number_is : c.refusal.result + 256 * c.place.result ≡ loader_number c.args.file.now = (rw (c.refusal.ensures, c.place.ensures, c.load-loaded.ensures)) in
-    load_refused _ _ _ number_is c.if-number-ne0.true
+    let done = load_refused _ _ _ number_is c.if-number-ne0.true in
+    record { result = done.0; room = done.1 }
 
 pub returns-then-room-lt-MODEL : goal.returns-then-room-lt-MODEL
 returns-then-room-lt-MODEL c =
     let number_is : c.refusal.result + 256 * c.place.result ≡ loader_number c.args.file.now = (rw (c.refusal.ensures, c.place.ensures, c.load-loaded.ensures)) in
-    load_short _ _ _ number_is c.if-number-ne0.false c.if-room-lt-MODEL.true
+    let done = load_short _ _ _ number_is c.if-number-ne0.false c.if-room-lt-MODEL.true in
+    record { result = done.0; room = done.1 }
 
 pub returns : goal.returns
 returns c =
     let number_is : c.refusal.result + 256 * c.place.result ≡ loader_number c.args.file.now = (rw (c.refusal.ensures, c.place.ensures, c.load-loaded.ensures)) in
-    load_done _ _ _ number_is c.if-number-ne0.false c.if-room-lt-MODEL.false _ _ (ap (λ (x : Loaded). x.model) c.load-loaded.ensures) c.put_model.ensures
+    let done = load_done _ _ _ number_is c.if-number-ne0.false c.if-room-lt-MODEL.false _ _ (ap (λ (x : Loaded). x.model) c.load-loaded.ensures) c.put_model.ensures in
+    record { result = done.0; room = done.1 }

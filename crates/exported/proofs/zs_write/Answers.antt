@@ -14,7 +14,9 @@ use Rattle.exported.proofs.WriteLaws.{number_of, no_model, write_number_lem, wri
 use Rattle.exported.proofs.zs_write.Goals as goal
 
 pub returns-then-not-is_model : goal.returns-then-not-is_model
-returns-then-not-is_model c = no_model _ _ (sym c.is_model.ensures ∙ c.if-not-is_model.true)
+returns-then-not-is_model c =
+    let none = no_model c.args.model.now c.args.room.now (sym c.is_model.ensures ∙ c.if-not-is_model.true) in
+    record { result = none.0; room = none.1 }
 
 pub model_from-m-requires : goal.model_from-m-requires
 model_from-m-requires c =
@@ -35,19 +37,19 @@ pub returns-in-Bytes : goal.returns-in-Bytes
 returns-in-Bytes c =
     let ok : is_model c.args.model.now ≡ true = (sym c.is_model.ensures ∙ c.if-not-is_model.false) in
     let number_is : number_of c.write-written.result ≡ write_number c.args.model.now c.args.room.now = (ap number_of (c.write-written.ensures.answer ∙ ap (λ (m : Model). written_as m (length c.args.room.now)) c.model_from-m.ensures) ∙ write_number_lem c.args.model.now c.args.room.now ok) in
-    let room_is : c.write-written.new.1.0 ≡ write_room c.args.model.now c.args.room.now = (c.write-written.ensures.buffer ∙ ap (λ (m : Model). buffer_of m c.args.room.now) c.model_from-m.ensures ∙ write_room_lem c.args.model.now c.args.room.now ok) in
-    (sym (ap number_of c.in-Bytes.is) ∙ number_is, room_is)
+    let room_is : c.write-written.new.buffer ≡ write_room c.args.model.now c.args.room.now = (c.write-written.ensures.buffer ∙ ap (λ (m : Model). buffer_of m c.args.room.now) c.model_from-m.ensures ∙ write_room_lem c.args.model.now c.args.room.now ok) in
+    record { result = sym (ap number_of c.in-Bytes.is) ∙ number_is; room = room_is }
 
 pub returns-in-NotValid : goal.returns-in-NotValid
 returns-in-NotValid c =
     let ok : is_model c.args.model.now ≡ true = (sym c.is_model.ensures ∙ c.if-not-is_model.false) in
     let number_is : number_of c.write-written.result ≡ write_number c.args.model.now c.args.room.now = (ap number_of (c.write-written.ensures.answer ∙ ap (λ (m : Model). written_as m (length c.args.room.now)) c.model_from-m.ensures) ∙ write_number_lem c.args.model.now c.args.room.now ok) in
-    let room_is : c.write-written.new.1.0 ≡ write_room c.args.model.now c.args.room.now = (c.write-written.ensures.buffer ∙ ap (λ (m : Model). buffer_of m c.args.room.now) c.model_from-m.ensures ∙ write_room_lem c.args.model.now c.args.room.now ok) in
-    (sym (ap number_of c.in-NotValid.is) ∙ number_is, room_is)
+    let room_is : c.write-written.new.buffer ≡ write_room c.args.model.now c.args.room.now = (c.write-written.ensures.buffer ∙ ap (λ (m : Model). buffer_of m c.args.room.now) c.model_from-m.ensures ∙ write_room_lem c.args.model.now c.args.room.now ok) in
+    record { result = sym (ap number_of c.in-NotValid.is) ∙ number_is; room = room_is }
 
 pub returns-in-TooShort : goal.returns-in-TooShort
 returns-in-TooShort c =
     let ok : is_model c.args.model.now ≡ true = (sym c.is_model.ensures ∙ c.if-not-is_model.false) in
     let number_is : number_of c.write-written.result ≡ write_number c.args.model.now c.args.room.now = (ap number_of (c.write-written.ensures.answer ∙ ap (λ (m : Model). written_as m (length c.args.room.now)) c.model_from-m.ensures) ∙ write_number_lem c.args.model.now c.args.room.now ok) in
-    let room_is : c.write-written.new.1.0 ≡ write_room c.args.model.now c.args.room.now = (c.write-written.ensures.buffer ∙ ap (λ (m : Model). buffer_of m c.args.room.now) c.model_from-m.ensures ∙ write_room_lem c.args.model.now c.args.room.now ok) in
-    (sym (ap number_of c.in-TooShort.is) ∙ number_is, room_is)
+    let room_is : c.write-written.new.buffer ≡ write_room c.args.model.now c.args.room.now = (c.write-written.ensures.buffer ∙ ap (λ (m : Model). buffer_of m c.args.room.now) c.model_from-m.ensures ∙ write_room_lem c.args.model.now c.args.room.now ok) in
+    record { result = sym (ap number_of c.in-TooShort.is) ∙ number_is; room = room_is }

@@ -19,7 +19,7 @@ put_subject-requires c = omega (arith, c.loop-s.invariant.1, c.requires, c.loop-
 pub loop-s-preserved : goal.loop-s-preserved
 loop-s-preserved c =
     let inv = c.loop-s.invariant in
-    (search rules, c.put_subject.auto.0 ∙ inv.1, each_turn _ 187 (λ k. length_subject _) _ _ _ _ _ _ (omega arith) inv.2 c.put_subject.ensures)
+    (search rules, c.put_subject.auto.room ∙ inv.1, each_turn _ 187 (λ k. length_subject _) _ _ _ _ _ _ (omega arith) inv.2 c.put_subject.ensures)
 
 pub returns : goal.returns
 unfolding config_bytes

@@ -19,7 +19,7 @@ put_entry-requires c = omega (arith, c.loop-i.invariant.1, c.requires, c.loop-i-
 pub loop-i-preserved : goal.loop-i-preserved
 loop-i-preserved c =
     let inv = c.loop-i.invariant in
-    (search rules, c.put_entry.auto.0 ∙ inv.1, each_turn _ 7 (λ k. length_entry _) _ _ _ _ _ _ refl inv.2 c.put_entry.ensures)
+    (search rules, c.put_entry.auto.room ∙ inv.1, each_turn _ 7 (λ k. length_entry _) _ _ _ _ _ _ refl inv.2 c.put_entry.ensures)
 
 pub returns : goal.returns
 unfolding entries_bytes

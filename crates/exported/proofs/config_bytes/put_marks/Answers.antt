@@ -17,7 +17,7 @@ put_word-requires c = omega (arith, c.loop-i.invariant.1, c.requires, c.loop-i-t
 pub loop-i-preserved : goal.loop-i-preserved
 loop-i-preserved c =
     let inv = c.loop-i.invariant in
-    (search rules, c.put_word.auto.0 ∙ inv.1, each_turn _ 4 (λ k. refl) _ _ _ _ _ _ refl inv.2 c.put_word.ensures)
+    (search rules, c.put_word.auto.room ∙ inv.1, each_turn _ 4 (λ k. refl) _ _ _ _ _ _ refl inv.2 c.put_word.ensures)
 
 pub returns : goal.returns
 unfolding marks_bytes

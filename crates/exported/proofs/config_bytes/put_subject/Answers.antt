@@ -10,7 +10,7 @@ use Rattle.exported.proofs.ByteLaws.{length_marks}
 use Rattle.exported.proofs.config_bytes.put_subject.Goals as goal
 
 pub put_entries-requires : goal.put_entries-requires
-put_entries-requires c = simp length-set (omega (arith, c.put_marks.auto.0, c.put_fields.auto.0, c.requires))
+put_entries-requires c = simp length-set (omega (arith, c.put_marks.auto.room, c.put_fields.auto.room, c.requires))
 
 pub returns : goal.returns
 unfolding chained chained_from subject_bytes

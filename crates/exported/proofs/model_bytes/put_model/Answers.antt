@@ -21,7 +21,7 @@ pub put_subjects-requires : goal.put_subjects-requires
 put_subjects-requires c = simp length-set c.requires
 
 pub put_states-requires : goal.put_states-requires
-put_states-requires c = rw c.put_subjects.auto.0 (simp length-set c.requires)
+put_states-requires c = rw c.put_subjects.auto.room (simp length-set c.requires)
 
 pub returns : goal.returns
 unfolding chained chained_from model_bytes

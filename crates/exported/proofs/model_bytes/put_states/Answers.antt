@@ -19,7 +19,7 @@ put_state-requires c = omega (arith, c.loop-i.invariant.1, c.requires, c.loop-i-
 pub loop-i-preserved : goal.loop-i-preserved
 loop-i-preserved c =
     let inv = c.loop-i.invariant in
-    (search rules, c.put_state.auto.0 ∙ inv.1, each_turn _ 34 (λ k. length_state _) _ _ _ _ _ _ refl inv.2 (stored_same _ _ _ _ _ c.put_state.ensures (ap state_bytes c.unpack-st.ensures)))
+    (search rules, c.put_state.auto.room ∙ inv.1, each_turn _ 34 (λ k. length_state _) _ _ _ _ _ _ refl inv.2 (stored_same _ _ _ _ _ c.put_state.ensures (ap state_bytes c.unpack-st.ensures)))
 
 pub returns : goal.returns
 returns c =

@@ -19,7 +19,7 @@ put_own-requires c = omega (arith, c.loop-s.invariant.1, c.requires, c.loop-s-te
 pub loop-s-preserved : goal.loop-s-preserved
 loop-s-preserved c =
     let inv = c.loop-s.invariant in
-    (search rules, c.put_own.auto.0 ∙ inv.1, each_turn _ 27 (λ k. length_own _) _ _ _ _ _ _ refl inv.2 c.put_own.ensures)
+    (search rules, c.put_own.auto.room ∙ inv.1, each_turn _ 27 (λ k. length_own _) _ _ _ _ _ _ refl inv.2 c.put_own.ensures)
 
 pub returns : goal.returns
 returns c =

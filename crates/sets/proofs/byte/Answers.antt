@@ -1,6 +1,5 @@
 use mathlib.Core.Path.{sym}
 use lib.ListN.{get_or-eq_default}
-use borrow.Author.Rules.{rules}
 use Rattle.sets.proofs.byte.Goals as goal
 
 pub returns-else-k-s : goal.returns-else-k-s

@@ -1,5 +1,4 @@
 use mathlib.Core.Path.{refl, sym}
-use borrow.Author.Rules.{rules}
 use Rattle.sets.specs.Masks.{bit}
 use Rattle.sets.proofs.Masks.{bit_past}
 use Rattle.sets.proofs.has.Goals as goal

@@ -1,11 +1,6 @@
-use Prim.Native.Nat.{◌≤◌, ◌-◌}
-use mathlib.Core.Path.{◌≡◌, sym}
-use mathlib.Core.Bool.{true}
+use mathlib.Core.Path.{sym}
 use borrow.Author.Tests.{eq-eqb, ne_eqb}
 use borrow.Author.Rules.{rules}
-use lib.Dec.{eqb}
-use lib.ListN.{length, get_or}
-use Rattle.sets.specs.Below.{all_below}
 use Rattle.sets.specs.Tests.{all_zero}
 use Rattle.sets.proofs.Below.{all_start, all_more, all_stop, all_end}
 use Rattle.sets.proofs.is_zero.Goals as goal

@@ -1,6 +1,5 @@
 use mathlib.Core.Path.{sym}
 use Rattle.sets.proofs.Masks.{none_past}
-use borrow.Author.Rules.{rules}
 use Rattle.sets.proofs.none_from.Goals as goal
 
 pub returns : goal.returns

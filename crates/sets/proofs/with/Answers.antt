@@ -1,5 +1,4 @@
 use borrow.Author.Tests.{lt-ltb, le-ltb}
-use borrow.Author.Rules.{rules}
 use Rattle.sets.proofs.Masks.{shl_one, with_or}
 use Rattle.sets.proofs.with.Goals as goal
 

@@ -1,5 +1,5 @@
 use Rattle.blocks.proofs.FoldLaws.{fold_again, fold_all}
-use Rattle.std.proofs.Common.{◌≡◌, ◌-◌, ◌≤◌, length, take, refl, ◌∙◌, rules}
+use Rattle.std.proofs.Common.{refl, ◌∙◌, rules}
 use Rattle.blocks.specs.Checks.{step_of, check_of}
 use Rattle.blocks.proofs.checks.check.Goals as goal
 

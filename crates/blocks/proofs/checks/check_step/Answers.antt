@@ -1,4 +1,4 @@
-use Rattle.std.proofs.Common.{◌^◌, ◌∙◌, rules}
+use Rattle.std.proofs.Common.{◌^◌, ◌∙◌}
 use Rattle.blocks.proofs.FoldLaws.{by_doubling}
 use Rattle.blocks.proofs.checks.check_step.Goals as goal
 

@@ -1,6 +1,5 @@
-use Rattle.std.proofs.Common.{◌≡◌, ℕ, ◌-◌, ◌≤◌, length, replicate, sym, refl, ap, ◌∙◌, arith, length-set, rules}
+use Rattle.std.proofs.Common.{ℕ, replicate, sym, refl, ap, ◌∙◌, arith, length-set, rules}
 use lib.ListN.{length-replicate, get_or-replicate}
-use Rattle.sets.specs.Below.{table}
 use Rattle.sets.proofs.Below.{table_of}
 use Rattle.sets.specs.Stores.{stored}
 use Rattle.sets.proofs.Stores.{bytes_start, bytes_turn, bytes_end}

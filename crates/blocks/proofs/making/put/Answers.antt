@@ -1,4 +1,4 @@
-use Rattle.std.proofs.Common.{◌∙◌, rules}
+use Rattle.std.proofs.Common.{◌∙◌}
 use Rattle.blocks.proofs.MakingLaws.{record_there, no_block, no_place_lem}
 use Rattle.blocks.proofs.making.put.Goals as goal
 

@@ -1,4 +1,4 @@
-use Rattle.std.proofs.Common.{◌∙◌, arith, rules}
+use Rattle.std.proofs.Common.{◌∙◌, arith}
 use Rattle.blocks.proofs.MakingLaws.{seals, seal_there, seal_past, seal_far, seal_many}
 use Rattle.blocks.proofs.making.seal.Goals as goal
 

@@ -1,4 +1,4 @@
-use Rattle.std.proofs.Common.{◌≡◌, ℕ, ◌+◌, ◌-◌, [], ◌∷◌, take, drop, ap, ◌∙◌, arith, rules}
+use Rattle.std.proofs.Common.{◌≡◌, ℕ, ◌+◌, ◌-◌, [], ◌∷◌, take, drop, ap, ◌∙◌, arith}
 use Rattle.sets.specs.Stores.{stored}
 use Rattle.blocks.specs.Checks.{check_of}
 use Rattle.blocks.specs.Made.{four_bytes}

@@ -1,4 +1,4 @@
-use Rattle.std.proofs.Common.{[], ◌∷◌, arith, rules}
+use Rattle.std.proofs.Common.{[], ◌∷◌, arith}
 use Rattle.sets.proofs.Stores.{chained, chained_from, chained_stored, in_chain}
 use Rattle.blocks.proofs.making.store_head.Goals as goal
 

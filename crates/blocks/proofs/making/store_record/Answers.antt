@@ -1,5 +1,4 @@
-use Rattle.std.proofs.Common.{◌≡◌, ◌-◌, ◌≤◌, length, get_or, refl, ap, ◌∙◌, arith, length-set, rules}
-use Rattle.sets.specs.Below.{table}
+use Rattle.std.proofs.Common.{◌≡◌, length, get_or, refl, ap, ◌∙◌, arith, length-set, rules}
 use Rattle.sets.proofs.Below.{table_of}
 use Rattle.sets.specs.Stores.{stored}
 use Rattle.sets.proofs.Stores.{bytes_start, bytes_turn, bytes_end}

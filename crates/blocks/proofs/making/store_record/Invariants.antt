@@ -1,8 +1,6 @@
-use Rattle.std.proofs.Common.{◌≡◌, ◌-◌, ◌≤◌, length, get_or, refl, ap, ◌∙◌, arith, length-set, rules}
+use Rattle.std.proofs.Common.{◌≡◌, ◌-◌, ◌≤◌, length, get_or}
 use Rattle.sets.specs.Below.{table}
-use Rattle.sets.proofs.Below.{table_of}
 use Rattle.sets.specs.Stores.{stored}
-use Rattle.sets.proofs.Stores.{bytes_start, bytes_turn, bytes_end}
 use Rattle.blocks.proofs.making.store_record.Given as goal
 
 abbrev pub invariant-loop-i : goal.invariant-loop-i

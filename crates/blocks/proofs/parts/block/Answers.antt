@@ -1,4 +1,4 @@
-use Rattle.std.proofs.Common.{sym, rules}
+use Rattle.std.proofs.Common.{sym}
 use native.Mathlib.Nat.{add-sub_cancel_left}
 use Rattle.blocks.proofs.BlockLaws.{block_here, block_gone}
 use Rattle.blocks.proofs.parts.block.Goals as goal

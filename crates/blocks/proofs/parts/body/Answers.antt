@@ -1,4 +1,4 @@
-use Rattle.std.proofs.Common.{sym, arith, length-take-le, take_all, rules}
+use Rattle.std.proofs.Common.{sym, arith, length-take-le, take_all}
 use Rattle.blocks.proofs.parts.body.Goals as goal
 
 pub slice_bounds-result-end : goal.slice_bounds-result-end

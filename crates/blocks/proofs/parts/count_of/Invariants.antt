@@ -1,7 +1,6 @@
-use Rattle.std.proofs.Common.{◌≡◌, ◌-◌, ◌*◌, ◌≤◌, cond, eqb, sym, rules}
+use Rattle.std.proofs.Common.{◌≡◌, ◌-◌, ◌*◌, ◌≤◌, cond, eqb}
 use Rattle.sets.specs.Below.{sum_below}
-use Rattle.sets.proofs.Below.{sum_start, sum_turn, sum_end}
-use Rattle.blocks.specs.Blocks.{kind_of, used_of, count_of}
+use Rattle.blocks.specs.Blocks.{kind_of, used_of}
 use Rattle.blocks.proofs.parts.count_of.Given as goal
 
 abbrev pub invariant-loop-b : goal.invariant-loop-b

@@ -1,7 +1,7 @@
-use Rattle.std.proofs.Common.{◌≡◌, ◌-◌, ◌*◌, ◌≤◌, cond, ltb, sym, rules}
-use Rattle.sets.specs.Below.{sum_below, count_below}
+use Rattle.std.proofs.Common.{sym, rules}
+use Rattle.sets.specs.Below.{count_below}
 use Rattle.sets.proofs.Below.{sum_start, sum_turn, sum_end}
-use Rattle.blocks.specs.Blocks.{kind_of, first_block}
+use Rattle.blocks.specs.Blocks.{first_block}
 use Rattle.blocks.proofs.parts.first_block.Goals as goal
 
 pub loop-b-init : goal.loop-b-init

@@ -1,7 +1,6 @@
-use Rattle.std.proofs.Common.{◌≡◌, ◌-◌, ◌*◌, ◌≤◌, cond, ltb, sym, rules}
-use Rattle.sets.specs.Below.{sum_below, count_below}
-use Rattle.sets.proofs.Below.{sum_start, sum_turn, sum_end}
-use Rattle.blocks.specs.Blocks.{kind_of, first_block}
+use Rattle.std.proofs.Common.{◌≡◌, ◌-◌, ◌*◌, ◌≤◌, cond, ltb}
+use Rattle.sets.specs.Below.{sum_below}
+use Rattle.blocks.specs.Blocks.{kind_of}
 use Rattle.blocks.proofs.parts.first_block.Given as goal
 
 abbrev pub invariant-loop-b : goal.invariant-loop-b

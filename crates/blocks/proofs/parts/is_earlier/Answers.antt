@@ -1,4 +1,4 @@
-use Rattle.std.proofs.Common.{rules, le-ltb, lt-ltb}
+use Rattle.std.proofs.Common.{le-ltb, lt-ltb}
 use Rattle.blocks.proofs.parts.is_earlier.Goals as goal
 
 pub returns-then-byte-k : goal.returns-then-byte-k

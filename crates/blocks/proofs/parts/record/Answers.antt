@@ -1,4 +1,4 @@
-use Rattle.std.proofs.Common.{sym, arith, rules}
+use Rattle.std.proofs.Common.{sym}
 use native.Mathlib.Nat.{add-sub_cancel_left}
 use Rattle.blocks.specs.Blocks.{record_of}
 use Rattle.blocks.proofs.BlockLaws.{record_short, record_here, record_unused, record_past}

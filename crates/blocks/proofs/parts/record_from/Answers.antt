@@ -1,4 +1,4 @@
-use Rattle.std.proofs.Common.{sym, arith, rules}
+use Rattle.std.proofs.Common.{sym, arith}
 use Rattle.blocks.specs.Blocks.{record_from}
 use Rattle.blocks.proofs.BlockLaws.{record_gone}
 use Rattle.blocks.proofs.parts.record_from.Goals as goal

@@ -1,5 +1,4 @@
 use Rattle.blocks.specs.Blocks.{room_right}
-use Rattle.std.proofs.Common.{rules}
 use Rattle.blocks.proofs.parts.room_right.Goals as goal
 
 pub returns : goal.returns

@@ -1,4 +1,4 @@
-use Rattle.std.proofs.Common.{rules, eq-eqb, ne_eqb}
+use Rattle.std.proofs.Common.{eq-eqb, ne_eqb}
 use Rattle.blocks.proofs.parts.used_of.Goals as goal
 
 pub returns-then-byte-k : goal.returns-then-byte-k

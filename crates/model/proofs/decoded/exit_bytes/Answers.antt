@@ -1,16 +1,9 @@
-use mathlib.Core.Path.{◌≡◌, sym, ◌∙◌}
-use mathlib.Core.Bool.{cond}
-use mathlib.Core.List.{List}
-use Prim.Native.Nat.{ℕ, ◌≤◌, ◌-◌}
+use mathlib.Core.Path.{sym, ◌∙◌}
 use native.Mathlib.Nat.{le_trans}
-use lib.Dec.{ltb}
-use lib.ListN.{get_or}
 use borrow.Author.Rules.{rules}
 use borrow.Author.Tests.{lt-ltb, le-ltb}
-use Rattle.sets.specs.Below.{filled}
 use Rattle.sets.specs.Groups.{in_places}
 use Rattle.sets.proofs.Below.{fill_start, fill_turn, fill_rest, fill_end}
-use Rattle.blocks.specs.Blocks.{record_from}
 use Rattle.model.specs.Decoded.{exit_bytes}
 use Rattle.model.proofs.decoded.exit_bytes.Goals as goal
 

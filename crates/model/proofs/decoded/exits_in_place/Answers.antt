@@ -1,11 +1,8 @@
 use mathlib.Core.Path.{◌≡◌, sym, ap₂, ◌∙◌}
-use mathlib.Core.Bool.{true}
-use Prim.Native.Nat.{◌≤◌, ◌-◌}
+use Prim.Native.Nat.{◌≤◌}
 use native.Mathlib.Omega.{arith}
-use borrow.Author.Tests.{not-true, not-false}
 use lib.Dec.{eqb}
 use lib.ListN.{get_or}
-use Rattle.sets.specs.Below.{all_below, sum_below}
 use Rattle.sets.proofs.Below.{all_start, all_more, all_stop, all_end, sum_start, sum_turn, sum_end}
 use Rattle.model.specs.Records.{blank_stored}
 use Rattle.model.specs.Decoded.{exits_in, exits_named_in, exits_in_place}

@@ -1,6 +1,5 @@
 use mathlib.Core.Path.{◌≡◌, sym, ap, ◌∙◌}
 use mathlib.Core.Bool.{true}
-use borrow.Author.Tests.{not-true, not-false}
 use Rattle.model.specs.Decoded.{model_of, states_in_place, in_place}
 use Rattle.model.specs.declared.Model.{Model}
 use Rattle.model.proofs.decoded.in_place.Goals as goal

@@ -1,5 +1,4 @@
 use borrow.Author.Tests.{eq-eqb, ne_eqb}
-use borrow.Author.Rules.{rules}
 use Rattle.model.proofs.decoded.is_owner.Goals as goal
 
 pub returns-then-byte-s : goal.returns-then-byte-s

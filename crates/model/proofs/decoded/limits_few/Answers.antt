@@ -1,11 +1,6 @@
-use mathlib.Core.Path.{◌≡◌, sym}
-use mathlib.Core.Bool.{true}
-use Prim.Native.Nat.{◌≤◌, ◌-◌}
+use mathlib.Core.Path.{sym}
 use borrow.Author.Tests.{le-leb, lt-leb}
-use lib.Dec.{leb}
-use Rattle.sets.specs.Below.{all_below}
 use Rattle.sets.proofs.Below.{all_start, all_more, all_stop, all_end}
-use Rattle.model.specs.Decoded.{limits_in}
 use borrow.Author.Rules.{rules}
 use Rattle.model.proofs.decoded.limits_few.Goals as goal
 

@@ -1,12 +1,9 @@
-use mathlib.Core.Path.{◌≡◌, sym}
+use mathlib.Core.Path.{◌≡◌}
 use mathlib.Core.Bool.{true}
 use Prim.Native.Nat.{◌≤◌, ◌-◌}
-use borrow.Author.Tests.{le-leb, lt-leb}
 use lib.Dec.{leb}
 use Rattle.sets.specs.Below.{all_below}
-use Rattle.sets.proofs.Below.{all_start, all_more, all_stop, all_end}
 use Rattle.model.specs.Decoded.{limits_in}
-use borrow.Author.Rules.{rules}
 use Rattle.model.proofs.decoded.limits_few.Given as goal
 
 abbrev pub invariant-loop-s : goal.invariant-loop-s

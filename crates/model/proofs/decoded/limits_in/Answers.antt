@@ -1,13 +1,8 @@
 use mathlib.Core.Path.{◌≡◌, sym}
-use mathlib.Core.Bool.{Bool}
-use mathlib.Core.List.{List}
-use Prim.Native.Nat.{ℕ, ◌+◌, ◌≤◌, ◌-◌}
+use Prim.Native.Nat.{◌+◌}
 use native.Mathlib.Omega.{arith}
-use lib.Dec.{eqb}
-use lib.ListN.{get_or}
 use Rattle.sets.specs.Below.{count_below}
 use Rattle.sets.proofs.Below.{count_start, count_bound, sum_turn, sum_end}
-use Rattle.blocks.specs.Blocks.{record_no}
 use Rattle.model.specs.Decoded.{limits_in}
 use borrow.Author.Rules.{rules}
 use Rattle.model.proofs.decoded.limits_in.Invariants.{owned}

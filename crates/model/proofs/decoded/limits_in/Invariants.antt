@@ -1,15 +1,11 @@
-use mathlib.Core.Path.{◌≡◌, sym}
+use mathlib.Core.Path.{◌≡◌}
 use mathlib.Core.Bool.{Bool}
 use mathlib.Core.List.{List}
-use Prim.Native.Nat.{ℕ, ◌+◌, ◌≤◌, ◌-◌}
-use native.Mathlib.Omega.{arith}
+use Prim.Native.Nat.{ℕ, ◌≤◌, ◌-◌}
 use lib.Dec.{eqb}
 use lib.ListN.{get_or}
 use Rattle.sets.specs.Below.{count_below}
-use Rattle.sets.proofs.Below.{count_start, count_bound, sum_turn, sum_end}
 use Rattle.blocks.specs.Blocks.{record_no}
-use Rattle.model.specs.Decoded.{limits_in}
-use borrow.Author.Rules.{rules}
 use Rattle.model.proofs.decoded.limits_in.Given as goal
 
 -- limit record j names s as the owner

@@ -1,6 +1,5 @@
 use mathlib.Core.Path.{sym, ◌∙◌}
 use Rattle.model.specs.Decoded.{limits_in_place}
-use borrow.Author.Rules.{rules}
 use Rattle.model.proofs.decoded.limits_in_place.Goals as goal
 
 pub returns-then-owners_there : goal.returns-then-owners_there

@@ -1,5 +1,4 @@
 use Rattle.model.specs.Decoded.{model_of}
-use borrow.Author.Rules.{rules}
 use Rattle.model.proofs.decoded.model.Goals as goal
 
 pub returns : goal.returns

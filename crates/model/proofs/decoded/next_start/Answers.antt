@@ -1,5 +1,4 @@
 use borrow.Author.Tests.{eq-eqb, ne_eqb}
-use borrow.Author.Rules.{rules}
 use Rattle.model.proofs.decoded.next_start.Goals as goal
 
 pub returns-then-t-eq-LAST_STATE : goal.returns-then-t-eq-LAST_STATE

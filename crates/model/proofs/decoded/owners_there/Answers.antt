@@ -1,8 +1,5 @@
-use mathlib.Core.Path.{◌≡◌, sym}
-use mathlib.Core.Bool.{true}
-use Prim.Native.Nat.{◌≤◌, ◌-◌}
+use mathlib.Core.Path.{sym}
 use borrow.Author.Tests.{lt-ltb, le-ltb}
-use Rattle.sets.specs.Below.{all_below}
 use Rattle.sets.proofs.Below.{all_start, all_more, all_stop, all_end}
 use Rattle.model.specs.Decoded.{owner_there}
 use borrow.Author.Rules.{rules}

@@ -1,11 +1,8 @@
-use mathlib.Core.Path.{◌≡◌, sym}
+use mathlib.Core.Path.{◌≡◌}
 use mathlib.Core.Bool.{true}
 use Prim.Native.Nat.{◌≤◌, ◌-◌}
-use borrow.Author.Tests.{lt-ltb, le-ltb}
 use Rattle.sets.specs.Below.{all_below}
-use Rattle.sets.proofs.Below.{all_start, all_more, all_stop, all_end}
 use Rattle.model.specs.Decoded.{owner_there}
-use borrow.Author.Rules.{rules}
 use Rattle.model.proofs.decoded.owners_there.Given as goal
 
 abbrev pub invariant-loop-j : goal.invariant-loop-j

@@ -1,7 +1,6 @@
 use mathlib.Core.Path.{ap, ◌∙◌}
 use borrow.Author.Tests.{lt-ltb, le-ltb}
 use Rattle.model.specs.Records.{row_of}
-use borrow.Author.Rules.{rules}
 use Rattle.model.proofs.decoded.row_from.Goals as goal
 
 pub returns-then-k-rows : goal.returns-then-k-rows

@@ -1,14 +1,10 @@
-use mathlib.Core.Path.{◌≡◌, ◌∙◌}
+use mathlib.Core.Path.{◌≡◌}
 use mathlib.Core.Bool.{cond}
 use Prim.Native.Nat.{◌+◌, ◌≤◌, ◌-◌}
 use lib.Dec.{ltb}
 use Rattle.sets.specs.Below.{filled}
-use Rattle.sets.specs.Groups.{in_places}
-use Rattle.sets.proofs.Below.{fill_start, fill_turn, fill_end}
 use Rattle.blocks.specs.Blocks.{record_from}
 use Rattle.model.specs.Records.{row_of, blank_row}
-use Rattle.model.specs.Decoded.{rows_from}
-use borrow.Author.Rules.{rules}
 use Rattle.model.proofs.decoded.rows_from.Given as goal
 
 abbrev pub invariant-loop-k : goal.invariant-loop-k

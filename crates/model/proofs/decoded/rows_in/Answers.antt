@@ -1,6 +1,5 @@
 use native.Mathlib.Omega.{arith}
 use Rattle.model.specs.Decoded.{rows_in}
-use borrow.Author.Rules.{rules}
 use Rattle.model.proofs.decoded.rows_in.Goals as goal
 
 pub returns-then-found-lt-MOST_ROWS : goal.returns-then-found-lt-MOST_ROWS

@@ -1,7 +1,6 @@
 use mathlib.Core.Path.{ap}
 use Prim.Native.Nat.{ℕ}
 use lib.Dec.{eqb}
-use borrow.Author.Rules.{rules}
 use Rattle.model.proofs.decoded.state_named.Goals as goal
 
 pub returns-then-has : goal.returns-then-has

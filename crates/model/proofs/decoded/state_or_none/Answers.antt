@@ -1,5 +1,4 @@
 use native.Mathlib.Omega.{arith}
-use borrow.Author.Rules.{rules}
 use Rattle.model.proofs.decoded.state_or_none.Goals as goal
 
 pub returns-then-has : goal.returns-then-has

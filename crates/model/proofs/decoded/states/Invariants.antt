@@ -1,15 +1,8 @@
-use mathlib.Core.Path.{◌≡◌, sym, ap, ◌∙◌}
-use mathlib.Core.List.{[]}
+use mathlib.Core.Path.{◌≡◌}
 use Prim.Native.Nat.{◌/◌, ◌≤◌, ◌-◌}
-use native.Mathlib.Omega.{arith}
-use lib.ListN.{get_or, replicate}
 use Rattle.sets.specs.Below.{sum_below, filled}
-use Rattle.sets.proofs.Below.{sum_start, sum_turn, fill_start, fill_turn, fill_end}
 use Rattle.model.specs.Records.{blank_stored}
 use Rattle.model.specs.Decoded.{states_in, exits_in, stored_in}
-use Rattle.model.specs.declared.Stored.{Stored}
-use Rattle.model.proofs.DecodedLaws.{states_few, starts_few, places_few, next_turn, states_at, exits_are, state_is}
-use borrow.Author.Rules.{rules}
 use Rattle.model.proofs.decoded.states.Given as goal
 
 abbrev pub invariant-loop-p : goal.invariant-loop-p

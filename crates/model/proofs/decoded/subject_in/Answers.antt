@@ -1,6 +1,5 @@
 use borrow.Author.Tests.{lt-ltb, le-ltb}
 use Rattle.model.specs.Decoded.{subject_in}
-use borrow.Author.Rules.{rules}
 use Rattle.model.proofs.decoded.subject_in.Goals as goal
 
 pub returns-then-s-n : goal.returns-then-s-n

@@ -1,11 +1,8 @@
-use mathlib.Core.Path.{◌≡◌, sym, ap, ◌∙◌}
-use Prim.Native.Nat.{◌≤◌, ◌-◌}
+use mathlib.Core.Path.{sym, ap, ◌∙◌}
+use Prim.Native.Nat.{◌≤◌}
 use native.Mathlib.Omega.{arith}
 use lib.ListN.{replicate}
-use Rattle.sets.specs.Below.{sum_below, filled}
 use Rattle.sets.proofs.Below.{sum_start, sum_turn, fill_start, fill_turn, fill_end}
-use Rattle.model.specs.Records.{blank_subject}
-use Rattle.model.specs.Decoded.{rows_in, subject_in}
 use Rattle.model.proofs.DecodedLaws.{rows_few}
 use borrow.Author.Rules.{rules}
 use Rattle.model.proofs.decoded.subjects.Goals as goal

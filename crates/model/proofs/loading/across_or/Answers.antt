@@ -1,7 +1,5 @@
 use mathlib.Core.Path.{sym, ◌∙◌}
-use borrow.Author.Tests.{not-true, not-false}
 use Rattle.model.specs.Loading.{across_or}
-use borrow.Author.Rules.{rules}
 use Rattle.model.proofs.loading.across_or.Goals as goal
 
 pub returns-then-not-in_place : goal.returns-then-not-in_place

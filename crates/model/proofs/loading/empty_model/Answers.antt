@@ -1,5 +1,4 @@
 use Rattle.model.specs.Loading.{empty_model}
-use borrow.Author.Rules.{rules}
 use Rattle.model.proofs.loading.empty_model.Goals as goal
 
 pub returns : goal.returns

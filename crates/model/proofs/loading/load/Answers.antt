@@ -1,7 +1,5 @@
 use mathlib.Core.Path.{sym, ◌∙◌}
-use borrow.Author.Tests.{not-true, not-false}
 use Rattle.model.specs.Loading.{loaded}
-use borrow.Author.Rules.{rules}
 use Rattle.model.proofs.loading.load.Goals as goal
 
 pub returns-then-not-length_right : goal.returns-then-not-length_right

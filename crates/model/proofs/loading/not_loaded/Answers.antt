@@ -1,4 +1,3 @@
-use borrow.Author.Rules.{rules}
 use Rattle.model.proofs.loading.not_loaded.Goals as goal
 
 pub returns : goal.returns

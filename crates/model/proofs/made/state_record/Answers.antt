@@ -1,5 +1,4 @@
 use mathlib.Core.Path.{refl}
-use borrow.Author.Rules.{rules}
 use Rattle.model.specs.Records.{with_exits}
 use Rattle.model.proofs.made.state_record.Goals as goal
 

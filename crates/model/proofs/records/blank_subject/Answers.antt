@@ -1,4 +1,3 @@
-use borrow.Author.Rules.{rules}
 use Rattle.model.proofs.records.blank_subject.Goals as goal
 
 pub returns : goal.returns

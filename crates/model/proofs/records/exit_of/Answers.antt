@@ -1,5 +1,4 @@
 use Rattle.model.specs.Records.{exit_of}
-use borrow.Author.Rules.{rules}
 use Rattle.model.proofs.records.exit_of.Goals as goal
 
 pub returns : goal.returns

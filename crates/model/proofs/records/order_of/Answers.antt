@@ -1,7 +1,6 @@
 use borrow.Author.Tests.{eq-eqb, ne_eqb}
 use native.Mathlib.Omega.{arith}
 use Rattle.model.specs.Records.{order_of}
-use borrow.Author.Rules.{rules}
 use Rattle.model.proofs.records.order_of.Goals as goal
 
 pub returns-then-r-eq0 : goal.returns-then-r-eq0

@@ -1,5 +1,4 @@
 use Rattle.model.specs.Records.{row_of}
-use borrow.Author.Rules.{rules}
 use Rattle.model.proofs.records.row_of.Goals as goal
 
 pub returns : goal.returns

@@ -1,4 +1,3 @@
-use borrow.Author.Rules.{rules}
 use Rattle.model.specs.Records.{state_of}
 use Rattle.model.proofs.records.state_of.Goals as goal
 

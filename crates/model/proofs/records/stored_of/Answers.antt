@@ -1,5 +1,4 @@
 use Rattle.model.specs.Records.{stored_of}
-use borrow.Author.Rules.{rules}
 use Rattle.model.proofs.records.stored_of.Goals as goal
 
 pub returns : goal.returns

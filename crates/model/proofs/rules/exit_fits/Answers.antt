@@ -1,6 +1,5 @@
 use borrow.Author.Tests.{eq-eqb, ne_eqb}
 use Rattle.model.specs.Rules.{exit_fits}
-use borrow.Author.Rules.{rules}
 use Rattle.model.proofs.rules.exit_fits.Goals as goal
 
 pub returns-then-kind-eq3 : goal.returns-then-kind-eq3

@@ -1,5 +1,4 @@
 use Rattle.model.specs.Rules.{names_fit}
-use borrow.Author.Rules.{rules}
 use Rattle.model.proofs.rules.names_none.Goals as goal
 
 pub returns : goal.returns

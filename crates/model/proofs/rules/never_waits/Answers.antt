@@ -1,4 +1,3 @@
-use borrow.Author.Rules.{rules}
 use Rattle.model.proofs.rules.never_waits.Goals as goal
 
 pub returns : goal.returns

@@ -1,5 +1,4 @@
 use Rattle.model.specs.Rules.{row_fits}
-use borrow.Author.Rules.{rules}
 use Rattle.model.proofs.rules.row_fits.Goals as goal
 
 pub returns : goal.returns

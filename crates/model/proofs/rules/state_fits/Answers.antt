@@ -1,5 +1,4 @@
 use mathlib.Core.Path.{◌∙◌}
-use borrow.Author.Rules.{rules}
 use Rattle.model.proofs.RuleLaws.{largest}
 use Rattle.model.proofs.rules.state_fits.Goals as goal
 

@@ -1,8 +1,6 @@
-use Prim.Native.Nat.{ℕ, ◌≤◌}
 use mathlib.Core.Path.{◌≡◌, refl, ap}
-use mathlib.Core.Logic.{inl, inr, ⊎_elim}
+use mathlib.Core.Logic.{⊎_elim}
 use native.Mathlib.Omega.{arith}
-use borrow.Author.Rules.{rules}
 use borrow.Author.Tests.{ne_eqb, le-leb, lt-leb}
 use Rattle.model.specs.Rules.{shape_of}
 use Rattle.model.proofs.RuleLaws.{right, exact, no_room, no_names, no_targets, no_receivers, receivers}

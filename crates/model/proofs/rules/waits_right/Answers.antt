@@ -1,4 +1,3 @@
-use borrow.Author.Rules.{rules}
 use Rattle.model.proofs.rules.waits_right.Goals as goal
 
 pub returns : goal.returns

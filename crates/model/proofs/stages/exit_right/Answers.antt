@@ -1,5 +1,4 @@
 use Rattle.model.specs.Stages.{exit_right}
-use borrow.Author.Rules.{rules}
 use Rattle.model.proofs.stages.exit_right.Goals as goal
 
 pub returns : goal.returns

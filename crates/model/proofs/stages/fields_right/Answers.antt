@@ -2,7 +2,6 @@ use Rattle.model.specs.Stages.{fields_right}
 use borrow.Author.Tests.{eq-eqb, ne_eqb}
 use Rattle.model.specs.Records.{state_key}
 use native.Mathlib.Omega.{arith}
-use borrow.Author.Rules.{rules}
 use Rattle.model.proofs.stages.fields_right.Goals as goal
 
 pub returns-then-k-eq2 : goal.returns-then-k-eq2

@@ -1,11 +1,6 @@
-use mathlib.Core.Path.{◌≡◌, sym, ◌∙◌}
-use Prim.Native.Nat.{◌≤◌, ◌-◌}
+use mathlib.Core.Path.{sym, ◌∙◌}
 use borrow.Author.Rules.{rules}
-use borrow.Author.Tests.{not-true, not-false}
-use Rattle.sets.specs.Below.{first_not}
-use Rattle.sets.specs.declared.Found.TheVariants.{Nothing}
 use Rattle.sets.proofs.Below.{first_start, first_more, first_found, first_end}
-use Rattle.blocks.specs.Blocks.{block_of, check_right}
 use Rattle.model.proofs.stages.first_bad_check.Goals as goal
 
 pub loop-b-init : goal.loop-b-init

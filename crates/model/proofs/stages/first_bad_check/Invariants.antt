@@ -1,10 +1,7 @@
-use mathlib.Core.Path.{◌≡◌, sym, ◌∙◌}
+use mathlib.Core.Path.{◌≡◌}
 use Prim.Native.Nat.{◌≤◌, ◌-◌}
-use borrow.Author.Rules.{rules}
-use borrow.Author.Tests.{not-true, not-false}
 use Rattle.sets.specs.Below.{first_not}
 use Rattle.sets.specs.declared.Found.TheVariants.{Nothing}
-use Rattle.sets.proofs.Below.{first_start, first_more, first_found, first_end}
 use Rattle.blocks.specs.Blocks.{block_of, check_right}
 use Rattle.model.proofs.stages.first_bad_check.Given as goal
 

@@ -1,11 +1,8 @@
-use mathlib.Core.Path.{◌≡◌, refl, sym, ◌∙◌}
+use mathlib.Core.Path.{◌≡◌}
 use mathlib.Core.Bool.{true}
 use Prim.Native.Nat.{◌≤◌, ◌-◌}
-use borrow.Author.Rules.{rules}
-use borrow.Author.Tests.{not-true, not-false}
 use Rattle.sets.specs.Below.{all_below, first_not}
 use Rattle.sets.specs.declared.Found.TheVariants.{Nothing}
-use Rattle.sets.proofs.Below.{all_start, all_more, all_stop, all_end, first_start, first_more, first_found, first_end}
 use Rattle.model.specs.Stages.{record_right, records_right}
 use Rattle.model.proofs.stages.first_bad_record.Given as goal
 

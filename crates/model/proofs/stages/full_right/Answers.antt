@@ -1,5 +1,4 @@
 use Rattle.model.specs.Stages.{full_right}
-use borrow.Author.Rules.{rules}
 use Rattle.model.proofs.stages.full_right.Goals as goal
 
 pub returns : goal.returns

@@ -1,6 +1,5 @@
 use Rattle.model.specs.Stages.{header_right}
 use borrow.Author.Tests.{eq-eqb, ne_eqb}
-use borrow.Author.Rules.{rules}
 use Rattle.model.proofs.stages.header_right.Goals as goal
 
 pub returns-then-i-eq0 : goal.returns-then-i-eq0

@@ -1,6 +1,5 @@
 use Rattle.model.specs.Stages.{kind_right}
 use borrow.Author.Tests.{eq-eqb, ne_eqb}
-use borrow.Author.Rules.{rules}
 use Rattle.model.proofs.stages.kind_right.Goals as goal
 
 pub returns-then-b-eq0 : goal.returns-then-b-eq0

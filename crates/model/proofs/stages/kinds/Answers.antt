@@ -1,6 +1,5 @@
-use Prim.Native.Nat.{◌≤◌, ◌-◌}
 use borrow.Author.Rules.{rules}
-use Rattle.model.proofs.StageLaws.{KindsOf, kinds_start, kinds_turn, kinds_end}
+use Rattle.model.proofs.StageLaws.{kinds_start, kinds_turn, kinds_end}
 use Rattle.model.proofs.stages.kinds.Goals as goal
 
 pub loop-j-init : goal.loop-j-init

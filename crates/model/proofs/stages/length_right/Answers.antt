@@ -1,5 +1,4 @@
 use Rattle.model.specs.Stages.{length_right}
-use borrow.Author.Rules.{rules}
 use Rattle.model.proofs.stages.length_right.Goals as goal
 
 pub returns : goal.returns

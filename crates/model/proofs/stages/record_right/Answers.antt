@@ -1,6 +1,5 @@
 use Rattle.model.specs.Stages.{record_right}
 use borrow.Author.Tests.{eq-eqb, ne_eqb}
-use borrow.Author.Rules.{rules}
 use Rattle.model.proofs.stages.record_right.Goals as goal
 
 pub returns-then-k-eq1 : goal.returns-then-k-eq1

@@ -1,4 +1,3 @@
-use borrow.Author.Rules.{rules}
 use Rattle.model.proofs.unpacked.exit_no.Goals as goal
 
 pub returns : goal.returns

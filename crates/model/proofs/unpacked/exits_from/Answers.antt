@@ -1,7 +1,7 @@
 use mathlib.Core.Path.{◌≡◌, refl, sym, ap, ◌∙◌}
 use mathlib.Core.Bool.{Bool, true, false, cond}
 use mathlib.Core.List.{List, ◌++◌}
-use Prim.Native.Nat.{ℕ, ◌+◌, ◌-◌, ◌≤◌, min}
+use Prim.Native.Nat.{ℕ, ◌-◌, min}
 use native.Mathlib.Omega.{arith}
 use lib.Dec.{ltb, leb}
 use lib.ListN.{replicate}
@@ -11,7 +11,7 @@ use Rattle.sets.specs.Below.{filled}
 use Rattle.sets.specs.Groups.{in_places}
 use Rattle.sets.proofs.Below.{table_same, fill_start, fill_turn, fill_rest, fill_end}
 use Rattle.model.specs.Records.{blank_exit}
-use Rattle.model.specs.Valid.{exit_no, exits_from}
+use Rattle.model.specs.Valid.{exits_from}
 use Rattle.model.specs.declared.Exit.{Exit}
 use Rattle.model.proofs.unpacked.exits_from.Goals as goal
 
@@ -23,6 +23,7 @@ filled-places f count x e =
   where
     there : ℕ → Exit
     there k = cond (ltb k count) (f k) blank_exit
+
     go : (b : Bool) → leb 8 count ≡ b → filled there blank_exit 8 x ≡ in_places 8 blank_exit count f
     go true h = fill_end there blank_exit 8 x (omega arith) (omega (arith, leb-true 8 count h))
     go false h = fill_rest there blank_exit 8 x (omega arith) (λ k l. rw (le-ltb k count (omega (arith, leb-false 8 count h))))

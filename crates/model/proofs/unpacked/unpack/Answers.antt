@@ -1,5 +1,4 @@
 use mathlib.Core.Path.{ap, ◌∙◌}
-use borrow.Author.Rules.{rules}
 use Rattle.model.specs.Records.{with_exits}
 use Rattle.model.proofs.unpacked.unpack.Goals as goal
 

@@ -1,4 +1,3 @@
-use borrow.Author.Rules.{rules}
 use Rattle.model.proofs.BlankLaws.{blank_is}
 use Rattle.model.proofs.valid.bits.Goals as goal
 

@@ -1,9 +1,8 @@
-use Prim.Native.Nat.{ℕ, ◌+◌, ◌*◌, ◌-◌, ◌≤◌, ◌<◌}
+use Prim.Native.Nat.{ℕ, ◌+◌, ◌*◌, ◌≤◌, ◌<◌}
 use mathlib.Core.Path.{◌≡◌, sym, ap, subst, ◌∙◌}
 use mathlib.Core.Bool.{Bool, true, false, ◌&&◌}
 use native.Mathlib.Nat.{add-zero}
 use native.Mathlib.Omega.{arith}
-use lib.Dec.{eqb}
 use borrow.Author.Tests.{eq-eqb, ne_eqb}
 use borrow.Author.Rules.{rules}
 use Rattle.sets.specs.Below.{all_below, sum_below}
@@ -89,9 +88,9 @@ returns-then-not-stored_valid c =
     let m = c.args.m in
     let sub = subject_at m c.loop-s.s in
     let state_is : state_right m (c.loop-s.s * 32 + c.loop-t.t) ≡ c.stored_valid.result =
-        sym (there_right m c.loop-s.s c.loop-t.t low c.loop-t-test.true)
-        ∙ ap (λ (k : ℕ). stored_valid m.targets m.senders m.types m.n sub.states k (stored_at m (c.loop-s.s * 32 + c.loop-t.t))) (sym c.loop-t.invariant.2)
-        ∙ sym c.stored_valid.ensures in
+    sym (there_right m c.loop-s.s c.loop-t.t low c.loop-t-test.true)
+    ∙ ap (λ (k : ℕ). stored_valid m.targets m.senders m.types m.n sub.states k (stored_at m (c.loop-s.s * 32 + c.loop-t.t))) (sym c.loop-t.invariant.2)
+    ∙ sym c.stored_valid.ensures in
     sym (no_place_lem m (c.loop-s.s * 32 + c.loop-t.t) in_all (state_is ∙ c.if-not-stored_valid.true))
 
 pub overflow_cast-exits : goal.overflow_cast-exits
@@ -118,9 +117,9 @@ loop-t-preserved c =
     let m = c.args.m in
     let sub = subject_at m c.loop-s.s in
     let state_is : state_right m (c.loop-s.s * 32 + c.loop-t.t) ≡ c.stored_valid.result =
-        sym (there_right m c.loop-s.s c.loop-t.t low c.loop-t-test.true)
-        ∙ ap (λ (k : ℕ). stored_valid m.targets m.senders m.types m.n sub.states k (stored_at m (c.loop-s.s * 32 + c.loop-t.t))) (sym c.loop-t.invariant.2)
-        ∙ sym c.stored_valid.ensures in
+    sym (there_right m c.loop-s.s c.loop-t.t low c.loop-t-test.true)
+    ∙ ap (λ (k : ℕ). stored_valid m.targets m.senders m.types m.n sub.states k (stored_at m (c.loop-s.s * 32 + c.loop-t.t))) (sym c.loop-t.invariant.2)
+    ∙ sym c.stored_valid.ensures in
     let inv = c.loop-t.invariant in (
       search rules,
       next (state_right m) (c.loop-s.s * 32) c.loop-t.t ∙ and_true inv.1 (state_is ∙ c.if-not-stored_valid.false),

@@ -1,19 +1,9 @@
-use Prim.Native.Nat.{ℕ, ◌+◌, ◌*◌, ◌-◌, ◌≤◌, ◌<◌}
-use mathlib.Core.Path.{◌≡◌, sym, ap, subst, ◌∙◌}
-use mathlib.Core.Bool.{Bool, true, false, ◌&&◌}
-use native.Mathlib.Nat.{add-zero}
-use native.Mathlib.Omega.{arith}
+use Prim.Native.Nat.{◌+◌, ◌*◌, ◌-◌, ◌≤◌}
+use mathlib.Core.Path.{◌≡◌}
+use mathlib.Core.Bool.{true}
 use lib.Dec.{eqb}
-use borrow.Author.Tests.{eq-eqb, ne_eqb}
-use borrow.Author.Rules.{rules}
 use Rattle.sets.specs.Below.{all_below, sum_below}
-use Rattle.sets.specs.Tests.{within}
-use Rattle.sets.proofs.Arrays.{each_holds}
-use Rattle.sets.proofs.Below.{all_start, all_more, all_end, sum_start, sum_bound}
-use Rattle.sets.proofs.Tests.{and_true}
-use Rattle.model.specs.Records.{blank_stored, with_exits}
-use Rattle.model.specs.Valid.{subject_at, stored_at, state_at, stored_valid, start_right, subject_right, state_right, exits_before, valid}
-use Rattle.model.specs.declared.Model.{Model}
+use Rattle.model.specs.Valid.{state_at, subject_right, state_right}
 use Rattle.model.proofs.valid.is_valid.Given as goal
 
 -- the subjects before s and their places are right, and their exits are counted

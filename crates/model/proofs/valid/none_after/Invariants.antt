@@ -1,12 +1,9 @@
-use mathlib.Core.Path.{◌≡◌, refl, sym, ap, ◌∙◌}
-use mathlib.Core.Bool.{Bool, ◌&&◌}
-use Prim.Native.Nat.{ℕ, ◌+◌, ◌-◌}
-use lib.Bits.{bit_or}
+use mathlib.Core.Path.{◌≡◌}
+use mathlib.Core.Bool.{◌&&◌}
+use Prim.Native.Nat.{◌-◌}
 use lib.Dec.{eqb}
-use lib.ListN.{length, get_or}
-use borrow.Author.Rules.{rules}
+use lib.ListN.{length}
 use Rattle.model.specs.Valid.{none_after}
-use Rattle.model.proofs.BlankLaws.{or_none, none_turn, none_end, and_assoc, and_rest}
 use Rattle.model.proofs.valid.none_after.Given as goal
 
 abbrev pub invariant-loop-j : goal.invariant-loop-j

@@ -1,5 +1,4 @@
 use borrow.Author.Tests.{lt-ltb, le-ltb}
-use borrow.Author.Rules.{rules}
 use Rattle.model.specs.Valid.{row_valid}
 use Rattle.model.proofs.valid.row_valid.Goals as goal
 

@@ -1,14 +1,8 @@
-use mathlib.Core.Path.{◌≡◌, refl, ap, ◌∙◌}
-use Prim.Native.Nat.{ℕ, ◌+◌, ◌-◌, ◌≤◌}
-use native.Mathlib.Nat.{le_antisymm}
-use native.Mathlib.Numerals.{add-one}
-use lib.Bits.{bit_or}
+use mathlib.Core.Path.{◌≡◌}
+use Prim.Native.Nat.{◌-◌, ◌≤◌}
 use lib.Dec.{eqb}
 use Rattle.sets.specs.Below.{all_below}
 use Rattle.model.specs.Valid.{row_at, is_blank_row}
-use Rattle.model.specs.declared.Subject.{Subject}
-use Rattle.model.proofs.BlankLaws.{or_none}
-use borrow.Author.Rules.{rules}
 use Rattle.model.proofs.valid.rows_blank.Given as goal
 
 abbrev pub invariant-loop-k : goal.invariant-loop-k

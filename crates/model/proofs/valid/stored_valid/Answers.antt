@@ -3,8 +3,6 @@ use mathlib.Core.Path.{◌≡◌, refl, sym, ap, ◌∙◌}
 use mathlib.Core.Bool.{Bool, ◌&&◌}
 use mathlib.Core.List.{List}
 use lib.Dec.{eqb}
-use borrow.Author.Rules.{rules}
-use borrow.Author.Tests.{not-true, not-false}
 use Rattle.model.specs.Records.{with_exits}
 use Rattle.model.specs.Rules.{state_fits, state_reaches, state_fits_in}
 use Rattle.model.specs.Valid.{unpacked, stored_valid}

@@ -1,5 +1,4 @@
 use borrow.Author.Tests.{lt-ltb, le-ltb}
-use borrow.Author.Rules.{rules}
 use Rattle.model.specs.Valid.{subject_own}
 use Rattle.model.proofs.valid.subject_own.Goals as goal
 

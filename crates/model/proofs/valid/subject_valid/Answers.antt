@@ -1,8 +1,8 @@
-use Prim.Native.Nat.{ℕ, ◌≤◌, ◌-◌}
+use Prim.Native.Nat.{ℕ, ◌≤◌}
 use mathlib.Core.Path.{◌≡◌, sym, ◌∙◌}
 use mathlib.Core.Bool.{true, ◌&&◌}
 use native.Mathlib.Omega.{arith}
-use borrow.Author.Tests.{not-true, not-false, eqb-true, le-ltb}
+use borrow.Author.Tests.{eqb-true, le-ltb}
 use borrow.Author.Rules.{rules}
 use lib.Dec.{eqb}
 use Rattle.sets.specs.Below.{all_below}

@@ -1,5 +1,4 @@
 use native.Mathlib.Omega.{arith}
-use borrow.Author.Rules.{rules}
 use Rattle.model.proofs.Facts.{model_good}
 use Rattle.model.proofs.FileLaws.{blocks_in_all, few_states, few_rows, few_exits}
 use Rattle.model.proofs.writing.block_count.Goals as goal

@@ -1,10 +1,7 @@
-use mathlib.Core.Path.{◌≡◌, refl}
-use Prim.Native.Nat.{◌*◌, ◌-◌, ◌≤◌}
+use mathlib.Core.Path.{refl}
 use borrow.Author.Rules.{rules}
-use lib.ListN.{get_or}
 use Rattle.sets.specs.Below.{sum_below}
 use Rattle.sets.proofs.Below.{sum_turn, sum_end}
-use Rattle.model.specs.Valid.{no_subject}
 use Rattle.model.proofs.writing.count_in.Goals as goal
 
 pub loop-s-init : goal.loop-s-init

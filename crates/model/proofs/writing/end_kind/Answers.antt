@@ -1,5 +1,4 @@
 use mathlib.Core.Path.{sym, ◌∙◌}
-use borrow.Author.Rules.{rules}
 use Rattle.model.proofs.WritingLaws.{end_empty, end_open}
 use Rattle.model.proofs.writing.end_kind.Goals as goal
 

@@ -1,9 +1,7 @@
-use mathlib.Core.Path.{◌≡◌, refl}
+use mathlib.Core.Path.{◌≡◌}
 use Prim.Native.Nat.{◌*◌, ◌-◌, ◌≤◌}
-use borrow.Author.Rules.{rules}
 use lib.ListN.{get_or}
 use Rattle.sets.specs.Below.{sum_below}
-use Rattle.sets.proofs.Below.{sum_turn, sum_end}
 use Rattle.model.specs.Records.{blank_stored}
 use Rattle.model.proofs.writing.exits_in_all.Given as goal
 

@@ -1,7 +1,6 @@
 use mathlib.Core.Path.{sym, ap, ◌∙◌}
 use mathlib.Core.List.{List}
 use Prim.Native.Nat.{ℕ}
-use borrow.Author.Rules.{rules}
 use Rattle.blocks.specs.Made.{sealed}
 use Rattle.model.proofs.WritingLaws.{next_full, next_open, put_full, put_open}
 use Rattle.model.proofs.writing.put_record.Goals as goal

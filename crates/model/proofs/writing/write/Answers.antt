@@ -2,8 +2,6 @@ use mathlib.Core.Path.{◌≡◌, sym, ap, ◌∙◌}
 use mathlib.Core.Bool.{true}
 use Prim.Native.Nat.{◌*◌, ◌≤◌}
 use native.Mathlib.Omega.{arith}
-use borrow.Author.Tests.{not-true, not-false}
-use borrow.Author.Rules.{rules}
 use lib.ListN.{length}
 use Rattle.model.specs.File.{records_of, start_of, file_of}
 use Rattle.model.specs.Valid.{valid}
@@ -56,8 +54,7 @@ write_exits-limits-requires c =
 pub write_limits-requires : goal.write_limits-requires
 write_limits-requires c =
     let ok : valid c.args.m ≡ true = (sym c.is_valid.ensures ∙ c.if-not-is_valid.false) in
-    let room : start_of (records_of c.args.m) 5 * 512 ≤ length c.args.buffer.now = (omega (arith, c.block_count-bytes.ensures, c.if-buffer-bytes.false)) in
-    (
+    let room : start_of (records_of c.args.m) 5 * 512 ≤ length c.args.buffer.now = (omega (arith, c.block_count-bytes.ensures, c.if-buffer-bytes.false)) in (
       ok,
       c.write_exits-limits.ensures.block,
       omega (arith, room, c.write_header-states.auto.buffer, c.write_states-exits.auto.buffer, c.write_exits-limits.auto.buffer),

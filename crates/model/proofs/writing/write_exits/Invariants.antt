@@ -1,13 +1,9 @@
-use mathlib.Core.Path.{◌≡◌, refl, ap, ◌∙◌}
+use mathlib.Core.Path.{◌≡◌}
 use mathlib.Core.List.{List}
 use Prim.Native.Nat.{ℕ, ◌-◌, ◌≤◌}
-use native.Mathlib.Omega.{arith}
-use borrow.Author.Rules.{rules}
 use lib.ListN.{length}
 use Rattle.sets.specs.Groups.{place_in}
-use Rattle.model.specs.File.{exit_record}
-use Rattle.model.proofs.Facts.{model_good}
-use Rattle.model.proofs.KindLaws.{Ready, Lay, ready_for, exits_lined, exits_kept, exit_item, exits_few, items_start, item_put, item_there, group_end, items_there, items_end}
+use Rattle.model.proofs.KindLaws.{Ready, Lay, exits_kept}
 use Rattle.model.proofs.writing.write_exits.Given as goal
 
 abbrev pub invariant-loop-x : goal.invariant-loop-x

@@ -1,13 +1,8 @@
-use mathlib.Core.Path.{◌≡◌, refl, sym, ap, ◌∙◌}
+use mathlib.Core.Path.{◌≡◌}
 use mathlib.Core.List.{List}
 use Prim.Native.Nat.{ℕ, suc, ◌-◌, ◌≤◌}
-use native.Mathlib.Numerals.{add-one}
-use native.Mathlib.Omega.{arith}
-use borrow.Author.Rules.{rules}
 use lib.ListN.{length}
-use Rattle.model.specs.File.{records_of}
-use Rattle.model.proofs.Facts.{model_good}
-use Rattle.model.proofs.KindLaws.{Ready, Lay, ready_for, lay_start, lay_at, header_start, header_first, header_then, header_count, kind_put, kind_there, kind_end}
+use Rattle.model.proofs.KindLaws.{Ready, Lay}
 use Rattle.model.proofs.writing.write_header.Given as goal
 
 abbrev pub invariant-loop-s : goal.invariant-loop-s

@@ -1,12 +1,10 @@
-use mathlib.Core.Path.{◌≡◌, refl, ◌∙◌}
+use mathlib.Core.Path.{◌≡◌}
 use mathlib.Core.List.{List}
-use Prim.Native.Nat.{ℕ, ◌-◌, ◌≤◌, ◌<◌}
-use native.Mathlib.Omega.{arith}
-use borrow.Author.Rules.{rules}
+use Prim.Native.Nat.{ℕ, ◌-◌, ◌≤◌}
 use lib.ListN.{length}
 use Rattle.sets.specs.Groups.{place_in}
-use Rattle.model.proofs.Facts.{rows_of, model_good}
-use Rattle.model.proofs.KindLaws.{Ready, Lay, ready_for, limits_lined, items_start, item_put, item_there, group_end, items_there, items_end}
+use Rattle.model.proofs.Facts.{rows_of}
+use Rattle.model.proofs.KindLaws.{Ready, Lay}
 use Rattle.model.proofs.writing.write_limits.Given as goal
 
 abbrev pub invariant-loop-k : goal.invariant-loop-k

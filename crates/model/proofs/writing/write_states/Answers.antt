@@ -1,12 +1,8 @@
-use mathlib.Core.Path.{◌≡◌, refl, ◌∙◌}
-use mathlib.Core.List.{List}
-use Prim.Native.Nat.{ℕ, ◌-◌, ◌≤◌}
+use mathlib.Core.Path.{refl, ◌∙◌}
 use native.Mathlib.Omega.{arith}
 use borrow.Author.Rules.{rules}
-use lib.ListN.{length}
-use Rattle.sets.specs.Groups.{place_in}
 use Rattle.model.proofs.Facts.{states_of, model_good}
-use Rattle.model.proofs.KindLaws.{Ready, Lay, ready_for, states_lined, state_item, items_start, item_put, item_there, group_end, items_there, items_end}
+use Rattle.model.proofs.KindLaws.{Ready, ready_for, states_lined, state_item, items_start, item_put, item_there, group_end, items_there, items_end}
 use Rattle.model.proofs.writing.write_states.Goals as goal
 
 pub loop-s-init : goal.loop-s-init

@@ -22,7 +22,7 @@ use Rattle.model.specs.declared.Subject as model_subject
 use Rattle.engine.specs.pools.Sizes.{most_entries}
 use Rattle.engine.specs.pools.Entries.{reservation}
 use Rattle.engine.specs.pools.Pools.{held, appended}
-use Rattle.engine.proofs.Cited.{held_appended, place_free}
+use Rattle.engine.proofs.Cited.{held_appended}
 use Rattle.engine.specs.configs.Subjects.{at, Held}
 use Rattle.engine.specs.configs.Valid.{type_of}
 use Rattle.engine.specs.declared.Answer.TheVariants.{Reserved}

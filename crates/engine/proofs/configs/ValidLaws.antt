@@ -2,7 +2,7 @@
 use mathlib.Core.Path.{◌≡◌, refl, sym, ap, ◌∙◌}
 use mathlib.Core.Logic.{◌≢◌, ◌⊎◌, inl, inr, ⊎_elim}
 use mathlib.Core.Bool.{Bool, true, false, ◌&&◌, ◌||◌, not, cond}
-use mathlib.Core.List.{List, []}
+use mathlib.Core.List.{[]}
 use Prim.Native.Nat.{ℕ, ◌+◌, ◌^◌, ◌≤◌, ◌<◌}
 use native.Mathlib.Omega.{arith}
 use borrow.Author.Tests.{lt-ltb, le-ltb, le-leb, eq-eqb, ne_eqb, ltb-true, ltb-false, leb-true, eqb-true, eqb-false, not-true}
@@ -26,7 +26,6 @@ use Rattle.engine.specs.pools.Sizes.{most_entries}
 use Rattle.engine.specs.pools.Pools.{held, has_message, reservations}
 use Rattle.engine.specs.pools.Rows.{rows_kept, row_kept, row_count}
 use Rattle.engine.specs.pools.Valid.{entry_valid, pool_valid, is_blank_pool}
-use Rattle.engine.specs.declared.Entry.{Entry}
 use Rattle.engine.specs.declared.Pool.{Pool}
 use Rattle.engine.proofs.pools.PoolLaws.{held_pooled, pooled_places, well_pooled, pooled_held, well_short, well_of, entries_valid, rows_kept_lem, valid_by, blank_is, blank_pooled}
 use Rattle.engine.specs.configs.Fresh.{starting, fresh_subject, fresh_config}

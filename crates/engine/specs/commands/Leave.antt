@@ -4,7 +4,6 @@ use Rattle.engine.specs.pools.Sizes.{most_entries}
 use Rattle.engine.specs.pools.Pools.{withdrawn_from}
 use Rattle.engine.specs.configs.Subjects.{each_subject, with_pool, enters}
 use Rattle.engine.specs.declared.Config.{Config}
-use Rattle.engine.specs.declared.Subject.{Subject}
 
 -- own reservations are withdrawn from all pools, the order of the rest stays
 unfoldable pub withdrawing : ℕ → Config → Config

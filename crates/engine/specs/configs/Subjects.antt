@@ -1,5 +1,5 @@
 -- A configuration: for each subject its mode, state, ticks waited, word, the mask of receivers with a place, closed marks and pool.
-use Rattle.std.specs.Prelude.{◌≡◌, Bool, cond, List, [], ℕ, ◌+◌, ◌*◌, ◌^◌, ◌<◌, eqb, length, get_or, set, replicate}
+use Rattle.std.specs.Prelude.{◌≡◌, Bool, cond, [], ℕ, ◌+◌, ◌*◌, ◌^◌, ◌<◌, eqb, length, get_or, set, replicate}
 use Rattle.sets.specs.Below.{table}
 use Rattle.model.specs.Sizes.{most_subjects, most_states}
 use Rattle.model.specs.Valid.{state_at}

@@ -1,5 +1,5 @@
 -- A valid configuration of a model: a line for each clause of the rule.
-use Rattle.std.specs.Prelude.{Bool, ◌&&◌, ◌||◌, not, cond, List, ℕ, eqb, leb, ltb, length, get_or}
+use Rattle.std.specs.Prelude.{Bool, ◌&&◌, ◌||◌, not, cond, ℕ, eqb, leb, ltb, length, get_or}
 use Rattle.sets.specs.Below.{all_below}
 use Rattle.sets.specs.Masks.{bit, others}
 use Rattle.model.specs.Rules.{any}

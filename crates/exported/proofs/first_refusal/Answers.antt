@@ -1,4 +1,3 @@
-use borrow.Author.Rules.{rules}
 use Rattle.engine.specs.commands.Rules.{first_number}
 use Rattle.exported.proofs.first_refusal.Goals as goal
 

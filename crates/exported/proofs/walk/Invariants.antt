@@ -1,11 +1,6 @@
-use mathlib.Core.Path.{◌≡◌, ap, ◌∙◌}
-use Prim.Native.Nat.{◌*◌, ◌-◌, ◌≤◌}
-use native.Mathlib.Numerals.{add-one}
-use native.Mathlib.Omega.{arith}
-use borrow.Author.Rules.{rules}
-use Rattle.engine.specs.Tapes.{commands, bytes_at, config_after}
-use Rattle.exported.specs.Calls.{eight_of}
-use Rattle.exported.proofs.ByteLaws.{eight_rest}
+use mathlib.Core.Path.{◌≡◌}
+use Prim.Native.Nat.{◌-◌, ◌≤◌}
+use Rattle.engine.specs.Tapes.{config_after}
 use Rattle.exported.proofs.walk.Given as goal
 
 abbrev pub invariant-loop-i : goal.invariant-loop-i

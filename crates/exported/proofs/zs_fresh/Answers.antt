@@ -1,5 +1,4 @@
-use mathlib.Core.Path.{◌≡◌, refl, sym, ap, ◌∙◌}
-use borrow.Author.Rules.{rules}
+use mathlib.Core.Path.{◌≡◌, ap, ◌∙◌}
 use Rattle.blocks.specs.Verdicts as verdicts
 use Rattle.model.specs.declared.Loaded.{Loaded}
 use Rattle.model.specs.Loading.{loaded}

@@ -1,4 +1,4 @@
-use mathlib.Core.Path.{◌≡◌, refl, sym, ap, ◌∙◌}
+use mathlib.Core.Path.{◌≡◌, ap}
 use Prim.Native.Nat.{◌+◌, ◌*◌, ◌<◌}
 use borrow.Author.Rules.{rules}
 use Rattle.model.specs.declared.Loaded.{Loaded}

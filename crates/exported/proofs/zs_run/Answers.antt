@@ -1,7 +1,6 @@
 use mathlib.Core.Path.{◌≡◌, refl, ap, ◌∙◌}
 use mathlib.Core.Bool.{true, not}
 use mathlib.Core.List.{[], ◌∷◌}
-use borrow.Author.Rules.{rules}
 use Rattle.blocks.specs.Verdicts as verdicts
 use Rattle.model.specs.Valid.{valid}
 use Rattle.model.specs.declared.Loaded.{Loaded}

@@ -1,5 +1,4 @@
 use mathlib.Core.Path.{◌≡◌, sym, ap, ◌∙◌}
-use borrow.Author.Rules.{rules}
 use Rattle.engine.specs.pools.Sizes.{most_entries}
 use Rattle.engine.specs.configs.Shares.{share_of}
 use Rattle.model.specs.declared.Loaded.{Loaded}

@@ -1,8 +1,7 @@
-use mathlib.Core.Path.{◌≡◌, refl, sym, ap, ◌∙◌}
+use mathlib.Core.Path.{◌≡◌, ap, ◌∙◌}
 use mathlib.Core.Bool.{not}
 use mathlib.Core.List.{[], ◌∷◌}
 use Prim.Native.Nat.{ℕ}
-use borrow.Author.Rules.{rules}
 use Rattle.sets.specs.Below.{table_from}
 use Rattle.sets.specs.Tests.{within}
 use Rattle.blocks.specs.Verdicts as verdicts
@@ -14,7 +13,7 @@ use Rattle.engine.specs.commands.Codes.{is_code, code_in}
 use Rattle.engine.specs.commands.Rules.{first_number}
 use Rattle.exported.specs.Bytes.{is_config}
 use Rattle.exported.specs.Calls.{model_in, eight_of, step_in}
-use Rattle.exported.proofs.CallLaws.{first_is, config_room, step_passed, step_first, step_last, step_done, values_room, Passed}
+use Rattle.exported.proofs.CallLaws.{first_is, config_room, step_passed, step_first, step_last, step_done, values_room}
 use Rattle.exported.proofs.zs_step.Goals as goal
 
 pub returns-then-first-ne0 : goal.returns-then-first-ne0

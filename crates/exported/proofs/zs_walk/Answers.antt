@@ -1,8 +1,6 @@
-use mathlib.Core.Path.{◌≡◌, refl, sym, ap, ◌∙◌}
+use mathlib.Core.Path.{◌≡◌, refl, ap, ◌∙◌}
 use mathlib.Core.Bool.{true, ◌&&◌, not}
 use mathlib.Core.List.{[], ◌∷◌}
-use borrow.Author.Rules.{rules}
-use borrow.Author.Tests.{not-true, not-false}
 use Rattle.blocks.specs.Verdicts as verdicts
 use Rattle.model.specs.Valid.{valid}
 use Rattle.model.specs.declared.Loaded.{Loaded}
@@ -10,7 +8,7 @@ use Rattle.engine.specs.configs.Valid.{config_valid}
 use Rattle.engine.specs.commands.Rules.{first_number}
 use Rattle.exported.specs.Bytes.{config_from, is_config}
 use Rattle.exported.specs.Calls.{model_in}
-use Rattle.exported.proofs.CallLaws.{first_is, config_room, walk_passed, walk_first, walk_last, walk_done, Passed}
+use Rattle.exported.proofs.CallLaws.{first_is, config_room, walk_passed, walk_first, walk_last, walk_done}
 use Rattle.exported.proofs.zs_walk.Goals as goal
 
 pub returns-then-first-ne0 : goal.returns-then-first-ne0

@@ -1,5 +1,4 @@
 use mathlib.Core.Path.{sym, ◌∙◌}
-use borrow.Author.Rules.{rules}
 use Rattle.engine.specs.configs.Subjects.{entered}
 use Rattle.engine.proofs.pools.EntryLaws.{message_empty}
 use Rattle.engine.proofs.Subject.enter.Goals as goal

@@ -1,10 +1,8 @@
-use mathlib.Core.Path.{◌≡◌, refl, sym, ap, ◌∙◌}
+use mathlib.Core.Path.{◌≡◌}
 use Prim.Native.Nat.{◌*◌, ◌-◌, ◌≤◌}
-use borrow.Author.Rules.{rules}
-use lib.ListN.{drop, replicate}
+use lib.ListN.{drop}
 use Rattle.sets.specs.Below.{filled}
-use Rattle.sets.proofs.Below.{fill_start, fill_turn, fill_end}
-use Rattle.exported.specs.Bytes.{subject_from, config_from}
+use Rattle.exported.specs.Bytes.{subject_from}
 use Rattle.exported.proofs.config_bytes.config_from.Given as goal
 
 abbrev pub invariant-loop-s : goal.invariant-loop-s

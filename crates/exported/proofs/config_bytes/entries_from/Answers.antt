@@ -1,10 +1,6 @@
-use mathlib.Core.Path.{◌≡◌, refl, sym, ap, ◌∙◌}
-use Prim.Native.Nat.{◌*◌, ◌-◌, ◌≤◌}
+use mathlib.Core.Path.{ap, ◌∙◌}
 use borrow.Author.Rules.{rules}
-use lib.ListN.{drop}
-use Rattle.sets.specs.Below.{filled}
 use Rattle.sets.proofs.Below.{fill_start, fill_turn, fill_end}
-use Rattle.engine.specs.pools.Entries.{blank_entry}
 use Rattle.exported.specs.Bytes.{entry_from, entries_from}
 use Rattle.exported.proofs.config_bytes.entries_from.Goals as goal
 

@@ -1,11 +1,9 @@
-use mathlib.Core.Path.{◌≡◌, refl, sym, ap, ◌∙◌}
+use mathlib.Core.Path.{◌≡◌}
 use Prim.Native.Nat.{◌*◌, ◌-◌, ◌≤◌}
-use borrow.Author.Rules.{rules}
 use lib.ListN.{drop}
 use Rattle.sets.specs.Below.{filled}
-use Rattle.sets.proofs.Below.{fill_start, fill_turn, fill_end}
 use Rattle.engine.specs.pools.Entries.{blank_entry}
-use Rattle.exported.specs.Bytes.{entry_from, entries_from}
+use Rattle.exported.specs.Bytes.{entry_from}
 use Rattle.exported.proofs.config_bytes.entries_from.Given as goal
 
 abbrev pub invariant-loop-i : goal.invariant-loop-i

@@ -1,13 +1,8 @@
-use mathlib.Core.Path.{◌≡◌, refl, sym, ap, ◌∙◌}
-use Prim.Native.Nat.{◌-◌, ◌≤◌}
-use mathlib.Core.Bool.{true}
+use mathlib.Core.Path.{sym}
 use borrow.Author.Rules.{rules}
 use borrow.Author.Tests.{lt-leb, le-leb}
-use lib.Dec.{leb}
-use lib.ListN.{get_or}
-use Rattle.sets.specs.Below.{all_below}
 use Rattle.sets.proofs.Below.{all_start, all_more, all_stop, all_end}
-use Rattle.exported.specs.Bytes.{flag_place, flags_right}
+use Rattle.exported.specs.Bytes.{flags_right}
 use Rattle.exported.proofs.config_bytes.flags_right.Goals as goal
 
 pub loop-j-init : goal.loop-j-init

@@ -1,4 +1,3 @@
-use borrow.Author.Rules.{rules}
 use Rattle.exported.specs.Bytes.{is_config}
 use Rattle.exported.proofs.config_bytes.is_config.Goals as goal
 

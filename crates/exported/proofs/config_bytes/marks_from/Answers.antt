@@ -1,8 +1,5 @@
-use mathlib.Core.Path.{◌≡◌, refl, sym, ap, ◌∙◌}
-use Prim.Native.Nat.{◌*◌, ◌-◌, ◌≤◌}
+use mathlib.Core.Path.{ap, ◌∙◌}
 use borrow.Author.Rules.{rules}
-use lib.ListN.{drop}
-use Rattle.sets.specs.Below.{filled}
 use Rattle.sets.proofs.Below.{fill_start, fill_turn, fill_end}
 use Rattle.exported.specs.Bytes.{word_of, marks_from}
 use Rattle.exported.proofs.config_bytes.marks_from.Goals as goal

@@ -1,11 +1,7 @@
-use mathlib.Core.Path.{◌≡◌, refl, ◌∙◌}
-use Prim.Native.Nat.{◌-◌, ◌≤◌}
+use mathlib.Core.Path.{refl, ◌∙◌}
 use native.Mathlib.Omega.{arith}
 use borrow.Author.Rules.{rules}
-use lib.ListN.{length}
-use Rattle.engine.specs.configs.Subjects.{at}
-use Rattle.sets.specs.Stores.{each_of, stored}
-use Rattle.exported.specs.Bytes.{subject_bytes, config_bytes}
+use Rattle.exported.specs.Bytes.{config_bytes}
 use Rattle.sets.proofs.Stores.{each_start, each_turn, each_end}
 use Rattle.exported.proofs.ByteLaws.{length_subject}
 use Rattle.exported.proofs.config_bytes.put_config.Goals as goal

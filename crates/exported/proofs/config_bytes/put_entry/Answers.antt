@@ -2,7 +2,6 @@ use mathlib.Core.Path.{ap, ◌∙◌}
 use mathlib.Core.List.{[], ◌∷◌}
 use Prim.Native.Nat.{ℕ}
 use native.Mathlib.Omega.{arith}
-use borrow.Author.Rules.{rules}
 use Rattle.sets.specs.Stores.{stored}
 use Rattle.exported.specs.Bytes.{word_bytes, entry_bytes}
 use Rattle.sets.proofs.Stores.{chained, chained_from, chained_stored, in_chain}

@@ -1,7 +1,5 @@
 use mathlib.Core.List.{[], ◌∷◌}
 use native.Mathlib.Omega.{arith}
-use borrow.Author.Rules.{rules}
-use lib.ListN.{length-set}
 use Rattle.exported.specs.Bytes.{field_bytes}
 use Rattle.sets.proofs.Stores.{chained, chained_from, chained_stored, in_chain}
 use Rattle.exported.proofs.config_bytes.put_fields.Goals as goal

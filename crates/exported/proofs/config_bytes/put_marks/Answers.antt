@@ -1,10 +1,7 @@
-use mathlib.Core.Path.{◌≡◌, refl, ◌∙◌}
-use Prim.Native.Nat.{◌-◌, ◌≤◌}
+use mathlib.Core.Path.{refl, ◌∙◌}
 use native.Mathlib.Omega.{arith}
 use borrow.Author.Rules.{rules}
-use lib.ListN.{length, get_or}
-use Rattle.sets.specs.Stores.{each_of, stored}
-use Rattle.exported.specs.Bytes.{word_bytes, marks_bytes}
+use Rattle.exported.specs.Bytes.{marks_bytes}
 use Rattle.sets.proofs.Stores.{each_start, each_turn, each_end}
 use Rattle.exported.proofs.config_bytes.put_marks.Goals as goal
 

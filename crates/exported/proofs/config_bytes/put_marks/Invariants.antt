@@ -1,11 +1,8 @@
-use mathlib.Core.Path.{◌≡◌, refl, ◌∙◌}
+use mathlib.Core.Path.{◌≡◌}
 use Prim.Native.Nat.{◌-◌, ◌≤◌}
-use native.Mathlib.Omega.{arith}
-use borrow.Author.Rules.{rules}
 use lib.ListN.{length, get_or}
 use Rattle.sets.specs.Stores.{each_of, stored}
-use Rattle.exported.specs.Bytes.{word_bytes, marks_bytes}
-use Rattle.sets.proofs.Stores.{each_start, each_turn, each_end}
+use Rattle.exported.specs.Bytes.{word_bytes}
 use Rattle.exported.proofs.config_bytes.put_marks.Given as goal
 
 abbrev pub invariant-loop-i : goal.invariant-loop-i

@@ -1,6 +1,5 @@
 use mathlib.Core.List.{[], ◌∷◌}
 use native.Mathlib.Omega.{arith}
-use borrow.Author.Rules.{rules}
 use Rattle.exported.specs.Calls.{value_bytes}
 use Rattle.sets.proofs.Stores.{chained, chained_from, chained_stored, in_chain}
 use Rattle.exported.proofs.config_bytes.put_numbers.Goals as goal

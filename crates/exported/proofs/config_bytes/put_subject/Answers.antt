@@ -1,8 +1,7 @@
-use mathlib.Core.Path.{refl, ◌∙◌}
+use mathlib.Core.Path.{refl}
 use mathlib.Core.List.{[], ◌∷◌}
 use Prim.Native.Nat.{◌+◌}
 use native.Mathlib.Omega.{arith}
-use borrow.Author.Rules.{rules}
 use lib.ListN.{length-set}
 use Rattle.exported.specs.Bytes.{field_bytes, marks_bytes, subject_bytes}
 use Rattle.sets.proofs.Stores.{chained, chained_from, chained_stored, stored_more}

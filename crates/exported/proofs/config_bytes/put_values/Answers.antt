@@ -1,5 +1,4 @@
 use mathlib.Core.Path.{sym, ap}
-use borrow.Author.Rules.{rules}
 use Rattle.exported.specs.Calls.{answer_bytes}
 use Rattle.sets.proofs.Stores.{stored_same}
 use Rattle.exported.proofs.config_bytes.put_values.Goals as goal

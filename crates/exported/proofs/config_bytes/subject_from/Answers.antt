@@ -1,5 +1,4 @@
-use mathlib.Core.Path.{◌≡◌, refl, sym, ap, ◌∙◌}
-use borrow.Author.Rules.{rules}
+use mathlib.Core.Path.{ap, ◌∙◌}
 use Rattle.exported.specs.Bytes.{short_of, word_of, marks_from, entries_from, subject_from}
 use Rattle.exported.proofs.config_bytes.subject_from.Goals as goal
 

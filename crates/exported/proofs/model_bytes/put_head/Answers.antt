@@ -1,7 +1,5 @@
 use mathlib.Core.List.{[], ◌∷◌}
 use native.Mathlib.Omega.{arith}
-use borrow.Author.Rules.{rules}
-use lib.ListN.{length-set}
 use Rattle.exported.specs.Bytes.{head_bytes}
 use Rattle.sets.proofs.Stores.{chained, chained_from, chained_stored, in_chain}
 use Rattle.exported.proofs.model_bytes.put_head.Goals as goal

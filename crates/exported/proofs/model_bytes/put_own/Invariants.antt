@@ -1,13 +1,9 @@
-use mathlib.Core.Path.{◌≡◌, refl, ap, ◌∙◌}
-use mathlib.Core.List.{[], ◌∷◌}
+use mathlib.Core.Path.{◌≡◌}
 use Prim.Native.Nat.{◌+◌, ◌-◌, ◌≤◌}
-use native.Mathlib.Omega.{arith}
-use borrow.Author.Rules.{rules}
-use lib.ListN.{length, length-set}
+use lib.ListN.{length}
 use Rattle.model.specs.Valid.{row_at}
 use Rattle.sets.specs.Stores.{each_of, stored}
-use Rattle.exported.specs.Bytes.{row_bytes, own_bytes}
-use Rattle.sets.proofs.Stores.{chained, chained_from, chained_stored, length_stored, stored_more, each_start, each_turn, each_end}
+use Rattle.exported.specs.Bytes.{row_bytes}
 use Rattle.exported.proofs.model_bytes.put_own.Given as goal
 
 abbrev pub invariant-loop-k : goal.invariant-loop-k

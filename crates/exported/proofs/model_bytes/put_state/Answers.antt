@@ -1,13 +1,10 @@
-use mathlib.Core.Path.{◌≡◌, refl, ap, ◌∙◌}
+use mathlib.Core.Path.{refl}
 use mathlib.Core.List.{[], ◌∷◌}
-use Prim.Native.Nat.{◌+◌, ◌-◌, ◌≤◌}
 use native.Mathlib.Omega.{arith}
 use borrow.Author.Rules.{rules}
-use lib.ListN.{length, length-set}
-use Rattle.model.specs.Valid.{exit_at}
-use Rattle.sets.specs.Stores.{each_of, stored}
-use Rattle.exported.specs.Bytes.{exit_bytes, state_bytes}
-use Rattle.sets.proofs.Stores.{chained, chained_from, chained_stored, length_stored, stored_more, each_start, each_turn, each_end}
+use lib.ListN.{length-set}
+use Rattle.exported.specs.Bytes.{state_bytes}
+use Rattle.sets.proofs.Stores.{chained, chained_from, chained_stored, stored_more, each_start, each_turn, each_end}
 use Rattle.exported.proofs.model_bytes.put_state.Goals as goal
 
 pub loop-x-init : goal.loop-x-init

@@ -1,10 +1,6 @@
-use mathlib.Core.Path.{◌≡◌, refl, ap, ◌∙◌}
-use Prim.Native.Nat.{◌-◌, ◌≤◌}
+use mathlib.Core.Path.{refl, ap, ◌∙◌}
 use native.Mathlib.Omega.{arith}
 use borrow.Author.Rules.{rules}
-use lib.ListN.{length}
-use Rattle.model.specs.Valid.{state_at}
-use Rattle.sets.specs.Stores.{each_of, stored}
 use Rattle.exported.specs.Bytes.{state_bytes}
 use Rattle.sets.proofs.Stores.{stored_same, each_start, each_turn, each_end}
 use Rattle.exported.proofs.ByteLaws.{length_state}

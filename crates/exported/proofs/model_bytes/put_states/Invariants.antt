@@ -1,13 +1,9 @@
-use mathlib.Core.Path.{◌≡◌, refl, ap, ◌∙◌}
+use mathlib.Core.Path.{◌≡◌}
 use Prim.Native.Nat.{◌-◌, ◌≤◌}
-use native.Mathlib.Omega.{arith}
-use borrow.Author.Rules.{rules}
 use lib.ListN.{length}
 use Rattle.model.specs.Valid.{state_at}
 use Rattle.sets.specs.Stores.{each_of, stored}
 use Rattle.exported.specs.Bytes.{state_bytes}
-use Rattle.sets.proofs.Stores.{stored_same, each_start, each_turn, each_end}
-use Rattle.exported.proofs.ByteLaws.{length_state}
 use Rattle.exported.proofs.model_bytes.put_states.Given as goal
 
 abbrev pub invariant-loop-i : goal.invariant-loop-i

@@ -1,13 +1,9 @@
-use mathlib.Core.Path.{◌≡◌, refl, ◌∙◌}
+use mathlib.Core.Path.{◌≡◌}
 use Prim.Native.Nat.{◌-◌, ◌≤◌}
-use native.Mathlib.Omega.{arith}
-use borrow.Author.Rules.{rules}
 use lib.ListN.{length}
 use Rattle.model.specs.Valid.{subject_at}
 use Rattle.sets.specs.Stores.{each_of, stored}
 use Rattle.exported.specs.Bytes.{own_bytes}
-use Rattle.sets.proofs.Stores.{each_start, each_turn, each_end}
-use Rattle.exported.proofs.ByteLaws.{length_own}
 use Rattle.exported.proofs.model_bytes.put_subjects.Given as goal
 
 abbrev pub invariant-loop-s : goal.invariant-loop-s

@@ -1,11 +1,9 @@
-use mathlib.Core.Path.{◌≡◌, sym, ap, ◌∙◌}
+use mathlib.Core.Path.{sym, ap, ◌∙◌}
 use mathlib.Core.List.{List}
-use Prim.Native.Nat.{ℕ, ◌*◌, ◌-◌, ◌≤◌}
+use Prim.Native.Nat.{ℕ}
 use borrow.Author.Rules.{rules}
 use lib.ListN.{get_or}
-use Rattle.sets.specs.Below.{sum_below}
 use Rattle.sets.proofs.Below.{sum_start, sum_turn, sum_end}
-use Rattle.exported.specs.Bytes.{exits_in}
 use Rattle.exported.proofs.model_from.exits_in_all.Goals as goal
 
 pub loop-p-init : goal.loop-p-init

@@ -1,10 +1,6 @@
-use mathlib.Core.Path.{◌≡◌, sym, ap, ◌∙◌}
-use mathlib.Core.List.{List}
-use Prim.Native.Nat.{ℕ, ◌*◌, ◌-◌, ◌≤◌}
-use borrow.Author.Rules.{rules}
-use lib.ListN.{get_or}
+use mathlib.Core.Path.{◌≡◌}
+use Prim.Native.Nat.{◌*◌, ◌-◌, ◌≤◌}
 use Rattle.sets.specs.Below.{sum_below}
-use Rattle.sets.proofs.Below.{sum_start, sum_turn, sum_end}
 use Rattle.exported.specs.Bytes.{exits_in}
 use Rattle.exported.proofs.model_from.exits_in_all.Given as goal
 

@@ -1,5 +1,4 @@
 use mathlib.Core.Path.{ap, ◌∙◌}
-use borrow.Author.Rules.{rules}
 use Rattle.exported.specs.Bytes.{short_of, head_from}
 use Rattle.exported.proofs.model_from.head_from.Goals as goal
 

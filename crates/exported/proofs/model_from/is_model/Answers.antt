@@ -1,4 +1,3 @@
-use borrow.Author.Rules.{rules}
 use Rattle.exported.specs.Bytes.{is_model}
 use Rattle.exported.proofs.model_from.is_model.Goals as goal
 

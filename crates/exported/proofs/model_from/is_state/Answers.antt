@@ -1,5 +1,4 @@
 use mathlib.Core.Path.{sym}
-use borrow.Author.Rules.{rules}
 use Rattle.exported.proofs.ModelLaws.{no_state_lem, a_state}
 use Rattle.exported.proofs.model_from.is_state.Goals as goal
 

@@ -1,9 +1,4 @@
-use mathlib.Core.Path.{◌≡◌}
-use Prim.Native.Nat.{◌+◌, ◌*◌, ◌-◌, ◌≤◌}
 use borrow.Author.Rules.{rules}
-use lib.ListN.{get_or}
-use Rattle.sets.specs.Below.{table}
-use Rattle.sets.specs.Stores.{stored}
 use Rattle.sets.proofs.Stores.{bytes_start, bytes_turn, bytes_end}
 use Rattle.exported.proofs.model_from.put_exits.Goals as goal
 

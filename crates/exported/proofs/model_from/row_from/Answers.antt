@@ -1,4 +1,3 @@
-use borrow.Author.Rules.{rules}
 use Rattle.exported.proofs.model_from.row_from.Goals as goal
 
 pub returns : goal.returns

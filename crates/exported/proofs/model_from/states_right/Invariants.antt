@@ -1,10 +1,7 @@
-use mathlib.Core.Path.{◌≡◌, sym, ap, ◌∙◌}
+use mathlib.Core.Path.{◌≡◌}
 use mathlib.Core.Bool.{true}
 use Prim.Native.Nat.{◌-◌, ◌≤◌}
-use borrow.Author.Rules.{rules}
-use borrow.Author.Tests.{not-true, not-false}
 use Rattle.sets.specs.Below.{all_below}
-use Rattle.sets.proofs.Below.{all_start, all_more, all_stop, all_end}
 use Rattle.exported.specs.Bytes.{state_in, is_state}
 use Rattle.exported.proofs.model_from.states_right.Given as goal
 

@@ -1,8 +1,6 @@
-use mathlib.Core.Path.{◌≡◌, ap, ◌∙◌}
-use Prim.Native.Nat.{◌+◌, ◌*◌, ◌-◌, ◌≤◌}
+use mathlib.Core.Path.{ap, ◌∙◌}
 use borrow.Author.Rules.{rules}
-use lib.ListN.{drop, replicate}
-use Rattle.sets.specs.Below.{filled}
+use lib.ListN.{replicate}
 use Rattle.sets.proofs.Below.{fill_start, fill_turn, fill_end}
 use Rattle.exported.specs.Bytes.{own_from}
 use Rattle.exported.proofs.model_from.subjects_from.Goals as goal

@@ -1,9 +1,7 @@
-use mathlib.Core.Path.{◌≡◌, ap, ◌∙◌}
+use mathlib.Core.Path.{◌≡◌}
 use Prim.Native.Nat.{◌+◌, ◌*◌, ◌-◌, ◌≤◌}
-use borrow.Author.Rules.{rules}
-use lib.ListN.{drop, replicate}
+use lib.ListN.{drop}
 use Rattle.sets.specs.Below.{filled}
-use Rattle.sets.proofs.Below.{fill_start, fill_turn, fill_end}
 use Rattle.exported.specs.Bytes.{own_from}
 use Rattle.exported.proofs.model_from.subjects_from.Given as goal
 

@@ -1,7 +1,5 @@
-use mathlib.Core.Path.{◌≡◌, refl, sym, ap, ◌∙◌}
-use mathlib.Core.List.{List, [], ◌∷◌}
+use mathlib.Core.List.{[], ◌∷◌}
 use Rattle.sets.specs.Below.{table_from}
-use borrow.Author.Rules.{rules}
 use Rattle.exported.proofs.numbers.eight_of.Goals as goal
 
 pub returns : goal.returns

@@ -1,4 +1,3 @@
-use borrow.Author.Rules.{rules}
 use Rattle.exported.proofs.numbers.word_of.Goals as goal
 
 pub returns : goal.returns

@@ -1,4 +1,3 @@
-use borrow.Author.Rules.{rules}
 use Rattle.engine.specs.commands.Codes.{bytes_of}
 use Rattle.engine.proofs.commands.codes.bytes_of.Goals as goal
 

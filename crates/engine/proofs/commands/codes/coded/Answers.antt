@@ -1,4 +1,3 @@
-use borrow.Author.Rules.{rules}
 use Rattle.engine.proofs.commands.codes.coded.Goals as goal
 
 pub returns : goal.returns

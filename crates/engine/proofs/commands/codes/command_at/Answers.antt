@@ -1,5 +1,4 @@
 use mathlib.Core.Path.{ap, ◌∙◌}
-use borrow.Author.Rules.{rules}
 use Rattle.engine.specs.commands.Codes.{coded_in}
 use Rattle.engine.proofs.commands.codes.command_at.Goals as goal
 

@@ -1,4 +1,3 @@
-use borrow.Author.Rules.{rules}
 use Rattle.engine.specs.commands.Deliver.{delivered_as}
 use Rattle.engine.proofs.commands.deliver.receive.Goals as goal
 

@@ -1,6 +1,5 @@
 use mathlib.Core.Path.{sym, ◌∙◌}
 use borrow.Author.Tests.{eq-eqb, ne_eqb}
-use borrow.Author.Rules.{rules}
 use Rattle.engine.specs.commands.Rules.{first_number}
 use Rattle.engine.proofs.commands.deliver.refuse.Goals as goal
 

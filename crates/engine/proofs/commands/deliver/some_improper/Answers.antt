@@ -1,14 +1,7 @@
 use mathlib.Core.Path.{◌≡◌, sym, ◌∙◌}
-use mathlib.Core.Bool.{Bool, false, ◌&&◌}
-use Prim.Native.Nat.{ℕ, ◌≤◌, ◌-◌}
 use borrow.Author.Rules.{rules}
-use lib.Dec.{eqb}
-use Rattle.sets.specs.Below.{some_below}
-use Rattle.sets.specs.Masks.{bit}
 use Rattle.sets.proofs.Below.{some_start, some_more, some_found, some_end}
-use Rattle.engine.specs.configs.Subjects.{ended_improperly, at}
 use Rattle.engine.specs.inner.Spine.{improper_among}
-use Rattle.engine.specs.declared.Config.{Config}
 use Rattle.engine.proofs.RuleLaws.{improper_none}
 use Rattle.engine.proofs.commands.deliver.some_improper.Invariants.{test}
 use Rattle.engine.proofs.commands.deliver.some_improper.Goals as goal

@@ -1,6 +1,4 @@
 use mathlib.Core.Path.{sym, ◌∙◌}
-use borrow.Author.Tests.{not-true, not-false}
-use borrow.Author.Rules.{rules}
 use Rattle.engine.specs.commands.Deliver.{started}
 use Rattle.engine.proofs.commands.deliver.start.Goals as goal
 

@@ -1,6 +1,5 @@
 use mathlib.Core.Path.{◌≡◌, sym, ◌∙◌}
 use borrow.Author.Tests.{eq-eqb, ne_eqb, lt-ltb, le-ltb}
-use borrow.Author.Rules.{rules}
 use Rattle.engine.specs.commands.Rules.{can_deliver, first_number}
 use Rattle.engine.proofs.commands.leave.refuse_expire.Goals as goal
 

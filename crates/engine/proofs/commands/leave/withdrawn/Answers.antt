@@ -1,4 +1,3 @@
-use borrow.Author.Rules.{rules}
 use Rattle.engine.proofs.commands.leave.withdrawn.Goals as goal
 
 pub returns : goal.returns

@@ -1,4 +1,3 @@
-use borrow.Author.Rules.{rules}
 use Rattle.engine.specs.inner.Spine.{parts_of}
 use Rattle.engine.proofs.commands.reserve.answer.Goals as goal
 

@@ -1,6 +1,5 @@
 use Prim.Native.Nat.{◌<◌}
 use mathlib.Core.Path.{◌≡◌, sym, ◌∙◌}
-use borrow.Author.Rules.{rules}
 use Rattle.engine.specs.pools.Sizes.{most_entries}
 use Rattle.engine.specs.declared.Reply.TheVariants.{Placed}
 use Rattle.engine.specs.inner.Spine.{parts_of, served_as}

@@ -1,5 +1,4 @@
 use borrow.Author.Tests.{lt-ltb}
-use borrow.Author.Rules.{rules}
 use Rattle.engine.specs.commands.Reserve.{noted}
 use Rattle.engine.proofs.commands.reserve.noted.Goals as goal
 

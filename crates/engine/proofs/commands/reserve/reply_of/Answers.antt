@@ -1,6 +1,5 @@
 use mathlib.Core.Path.{sym, ◌∙◌}
-use borrow.Author.Tests.{eq-eqb, ne_eqb, not-true, not-false}
-use borrow.Author.Rules.{rules}
+use borrow.Author.Tests.{eq-eqb, ne_eqb}
 use Rattle.engine.specs.commands.Reserve.{is_closed, reply_of}
 use Rattle.engine.proofs.commands.reserve.reply_of.Goals as goal
 

@@ -1,4 +1,3 @@
-use borrow.Author.Rules.{rules}
 use Rattle.engine.specs.commands.Reserve.{with_place}
 use Rattle.engine.proofs.commands.reserve.with_place.Goals as goal
 

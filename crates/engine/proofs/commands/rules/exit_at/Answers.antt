@@ -1,6 +1,5 @@
 use mathlib.Core.Path.{◌≡◌, sym}
 use native.Mathlib.Omega.{arith}
-use borrow.Author.Rules.{rules}
 use lib.ListN.{length, get_or-eq_default}
 use Rattle.model.specs.Records.{blank_exit}
 use Rattle.sets.proofs.Arrays.{length_mapped}

@@ -1,7 +1,5 @@
 use mathlib.Core.Path.{◌≡◌, sym, ◌∙◌}
 use mathlib.Core.Bool.{true}
-use borrow.Author.Tests.{not-true, not-false}
-use borrow.Author.Rules.{rules}
 use Rattle.engine.specs.commands.Codes.{is_code}
 use Rattle.engine.specs.commands.Rules.{first_number}
 use Rattle.engine.specs.inner.Spine.{number_for}

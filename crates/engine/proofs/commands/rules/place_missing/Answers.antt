@@ -1,4 +1,3 @@
-use borrow.Author.Rules.{rules}
 use Rattle.engine.specs.commands.Rules.{place_missing}
 use Rattle.engine.proofs.commands.rules.place_missing.Goals as goal
 

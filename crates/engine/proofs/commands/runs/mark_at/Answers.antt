@@ -1,5 +1,4 @@
 use mathlib.Core.Path.{sym, ◌∙◌}
-use borrow.Author.Rules.{rules}
 use Rattle.engine.specs.commands.Runs.{mark_at}
 use Rattle.engine.proofs.commands.runs.mark_at.Goals as goal
 

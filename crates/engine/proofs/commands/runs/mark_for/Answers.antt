@@ -1,7 +1,6 @@
 use mathlib.Core.Path.{◌≡◌}
 use mathlib.Core.Bool.{true}
 use borrow.Author.Tests.{eq-eqb, ne_eqb, lt-ltb, le-ltb}
-use borrow.Author.Rules.{rules}
 use Rattle.sets.specs.Masks.{bit, without_bit}
 use Rattle.sets.proofs.Masks.{shl_one, with_or}
 use Rattle.engine.specs.commands.Runs.{mark_for}

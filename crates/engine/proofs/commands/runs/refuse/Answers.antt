@@ -1,6 +1,4 @@
 use mathlib.Core.Path.{sym, ◌∙◌}
-use borrow.Author.Tests.{not-true, not-false}
-use borrow.Author.Rules.{rules}
 use Rattle.engine.specs.commands.Rules.{first_number}
 use Rattle.engine.proofs.commands.runs.refuse.Goals as goal
 

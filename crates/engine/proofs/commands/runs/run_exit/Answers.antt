@@ -1,5 +1,4 @@
 use mathlib.Core.Path.{sym, ◌∙◌}
-use borrow.Author.Rules.{rules}
 use Rattle.engine.specs.commands.Runs.{run_exit}
 use Rattle.engine.proofs.commands.runs.run_exit.Goals as goal
 

@@ -1,10 +1,7 @@
-use mathlib.Core.Path.{◌≡◌, sym, ◌∙◌}
+use mathlib.Core.Path.{◌≡◌}
 use Prim.Native.Nat.{◌≤◌, ◌-◌}
-use borrow.Author.Rules.{rules}
 use Rattle.sets.specs.Below.{changed}
-use Rattle.sets.proofs.Below.{change_start, change_end}
-use Rattle.engine.specs.commands.Runs.{mark_at, with_marks}
-use Rattle.sets.proofs.Below.{changed_turn}
+use Rattle.engine.specs.commands.Runs.{mark_at}
 use Rattle.engine.proofs.commands.runs.with_marks.Given as goal
 
 abbrev pub invariant-loop-i : goal.invariant-loop-i

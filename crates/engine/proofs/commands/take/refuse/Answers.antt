@@ -1,6 +1,5 @@
 use mathlib.Core.Path.{sym, ◌∙◌}
 use borrow.Author.Tests.{eq-eqb, ne_eqb, le-leb, lt-leb}
-use borrow.Author.Rules.{rules}
 use Rattle.engine.specs.commands.Rules.{no_message, first_number}
 use Rattle.engine.proofs.commands.take.refuse.Goals as goal
 

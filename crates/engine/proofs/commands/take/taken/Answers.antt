@@ -1,5 +1,4 @@
 use mathlib.Core.Path.{sym, ◌∙◌}
-use borrow.Author.Rules.{rules}
 use Rattle.engine.proofs.commands.take.taken.Goals as goal
 
 pub returns-in-At : goal.returns-in-At

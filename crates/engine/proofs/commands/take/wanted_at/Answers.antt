@@ -1,4 +1,3 @@
-use borrow.Author.Rules.{rules}
 use Rattle.engine.proofs.commands.take.wanted_at.Goals as goal
 
 pub returns : goal.returns

@@ -1,5 +1,4 @@
 use borrow.Author.Tests.{eq-eqb, ne_eqb}
-use borrow.Author.Rules.{rules}
 use Rattle.engine.specs.commands.Tick.{ticked}
 use Rattle.engine.proofs.commands.tick.ticked.Goals as goal
 

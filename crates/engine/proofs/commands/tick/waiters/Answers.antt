@@ -1,7 +1,6 @@
 use mathlib.Core.Path.{refl}
 use mathlib.Core.List.{[], ◌∷◌}
 use borrow.Author.Tests.{eq-eqb, ne_eqb}
-use borrow.Author.Rules.{rules}
 use Rattle.engine.specs.inner.Spine.{parts_of, waiters_of}
 use borrow.Enum.Refused.{opened}
 use Rattle.engine.proofs.ArmLaws.{arm}

@@ -1,7 +1,6 @@
 use mathlib.Core.Path.{refl}
 use mathlib.Core.List.{[], ◌∷◌}
 use borrow.Author.Tests.{eq-eqb, ne_eqb}
-use borrow.Author.Rules.{rules}
 use Rattle.engine.specs.inner.Spine.{parts_of}
 use Rattle.engine.specs.declared.Command.{Command}
 use borrow.Enum.Refused.{opened}

@@ -1,6 +1,5 @@
 use mathlib.Core.Path.{refl, ◌∙◌}
 use mathlib.Core.List.{[], ◌∷◌}
-use borrow.Author.Rules.{rules}
 use Rattle.engine.specs.inner.Spine.{parts_of, own_as}
 use Rattle.engine.proofs.ArmLaws.{arm}
 use Rattle.engine.proofs.commands.turns.own.Goals as goal

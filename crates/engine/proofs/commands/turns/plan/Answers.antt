@@ -1,6 +1,5 @@
 use mathlib.Core.Path.{ap, ◌∙◌}
 use Prim.Native.Nat.{ℕ}
-use borrow.Author.Rules.{rules}
 use Rattle.engine.specs.inner.Spine.{waiters, reached}
 use Rattle.engine.proofs.commands.turns.plan.Goals as goal
 

@@ -1,7 +1,6 @@
 use mathlib.Core.Path.{refl}
 use mathlib.Core.List.{[], ◌∷◌}
 use borrow.Author.Tests.{eq-eqb, ne_eqb}
-use borrow.Author.Rules.{rules}
 use Rattle.engine.specs.inner.Spine.{parts_of, reached_by}
 use Rattle.engine.proofs.ArmLaws.{arm}
 use Rattle.engine.proofs.commands.turns.reached.Goals as goal

@@ -1,6 +1,5 @@
 use mathlib.Core.Path.{refl}
 use mathlib.Core.List.{[], ◌∷◌}
-use borrow.Author.Rules.{rules}
 use Rattle.engine.specs.commands.Turns.{target_of}
 use Rattle.engine.proofs.ArmLaws.{arm}
 use Rattle.engine.proofs.commands.turns.target_of.Goals as goal

@@ -1,17 +1,13 @@
-use Prim.Native.Nat.{◌≤◌, ◌-◌, ◌<◌, ℕ}
-use mathlib.Core.Path.{sym, ◌∙◌, ◌≡◌}
-use mathlib.Core.Bool.{false, Bool}
+use Prim.Native.Nat.{◌≤◌, ◌<◌}
+use mathlib.Core.Path.{sym, ◌∙◌}
 use native.Mathlib.Omega.{arith}
 use borrow.Author.Rules.{rules}
-use Rattle.sets.specs.Below.{some_below}
 use Rattle.sets.proofs.Below.{some_start, some_more, some_found, some_end}
 use Rattle.model.specs.Records.{with_exits}
 use Rattle.model.specs.Valid.{subject_at}
-use Rattle.engine.specs.configs.Subjects.{state_of}
-use Rattle.engine.specs.configs.Shares.{sends_to, can_send}
+use Rattle.engine.specs.configs.Shares.{can_send}
 use Rattle.engine.proofs.configs.ModelFacts.{n_high}
 use Rattle.engine.proofs.configs.IndexFacts.{few_states}
-use Rattle.model.specs.declared.Model.{Model}
 use Rattle.engine.proofs.configs.shares.can_send.Invariants.{sends}
 use Rattle.engine.proofs.configs.shares.can_send.Goals as goal
 

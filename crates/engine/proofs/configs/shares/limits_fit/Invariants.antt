@@ -1,10 +1,7 @@
 use Prim.Native.Nat.{◌≤◌, ◌-◌, ◌*◌}
-use mathlib.Core.Path.{sym, ◌≡◌, refl}
-use borrow.Author.Rules.{rules}
+use mathlib.Core.Path.{◌≡◌}
 use Rattle.sets.specs.Below.{sum_below}
-use Rattle.sets.proofs.Below.{sum_start, sum_turn, sum_end}
 use Rattle.model.specs.Valid.{row_at}
-use Rattle.engine.specs.configs.Shares.{limits_fit}
 use Rattle.engine.proofs.configs.shares.limits_fit.Given as goal
 
 abbrev pub invariant-loop-k : goal.invariant-loop-k

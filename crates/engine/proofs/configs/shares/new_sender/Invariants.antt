@@ -1,11 +1,8 @@
 use Prim.Native.Nat.{◌≤◌, ◌-◌}
-use mathlib.Core.Path.{sym, ap, ◌≡◌}
+use mathlib.Core.Path.{◌≡◌}
 use mathlib.Core.Bool.{true, not}
-use borrow.Author.Tests.{eq-eqb, ne_eqb}
-use borrow.Author.Rules.{rules}
 use lib.Dec.{eqb}
 use Rattle.sets.specs.Below.{all_below}
-use Rattle.sets.proofs.Below.{all_start, all_more, all_stop, all_end}
 use Rattle.model.specs.Valid.{row_at}
 use Rattle.engine.proofs.configs.shares.new_sender.Given as goal
 

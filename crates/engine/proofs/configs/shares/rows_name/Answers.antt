@@ -1,12 +1,7 @@
-use Prim.Native.Nat.{◌≤◌, ◌-◌}
-use mathlib.Core.Path.{sym, ◌∙◌, ◌≡◌}
-use mathlib.Core.Bool.{true}
-use borrow.Author.Tests.{not-true, not-false}
+use mathlib.Core.Path.{sym, ◌∙◌}
 use borrow.Author.Rules.{rules}
-use Rattle.sets.specs.Below.{all_below}
 use Rattle.sets.proofs.Below.{all_start, all_more, all_stop, all_end}
-use Rattle.model.specs.Valid.{row_at}
-use Rattle.engine.specs.configs.Shares.{row_names, rows_name}
+use Rattle.engine.specs.configs.Shares.{rows_name}
 use Rattle.engine.proofs.configs.shares.rows_name.Goals as goal
 
 pub loop-k-init : goal.loop-k-init

@@ -2,8 +2,7 @@ use Prim.Native.Nat.{◌≤◌, ◌<◌}
 use mathlib.Core.Path.{sym, ◌∙◌, ◌≡◌}
 use mathlib.Core.Bool.{true}
 use native.Mathlib.Omega.{arith}
-use borrow.Author.Tests.{lt-ltb, le-ltb, not-true, not-false}
-use borrow.Author.Rules.{rules}
+use borrow.Author.Tests.{lt-ltb, le-ltb}
 use Rattle.model.specs.Valid.{subject_at, valid}
 use Rattle.engine.specs.pools.Sizes.{most_entries}
 use Rattle.engine.specs.configs.Shares.{shared_out, share_of}

@@ -1,6 +1,4 @@
 use mathlib.Core.Path.{sym, ◌∙◌}
-use borrow.Author.Tests.{not-true, not-false}
-use borrow.Author.Rules.{rules}
 use Rattle.engine.specs.configs.Subjects.{zero_config}
 use Rattle.engine.specs.configs.Fresh.{fresh_of}
 use Rattle.engine.proofs.configs.starts.fresh.Goals as goal

@@ -1,10 +1,7 @@
-use Prim.Native.Nat.{◌≤◌, ◌-◌}
 use mathlib.Core.Path.{◌∙◌, ap, ◌≡◌}
 use borrow.Author.Rules.{rules}
 use lib.ListN.{replicate}
-use Rattle.sets.specs.Below.{filled}
 use Rattle.sets.proofs.Below.{fill_start, fill_turn, fill_end}
-use Rattle.engine.specs.configs.Subjects.{nobody}
 use Rattle.engine.specs.configs.Fresh.{fresh_subject, fresh_config}
 use Rattle.engine.proofs.configs.starts.fresh_config.Goals as goal
 

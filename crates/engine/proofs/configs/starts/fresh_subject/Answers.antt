@@ -1,5 +1,3 @@
-use borrow.Author.Tests.{not-true, not-false}
-use borrow.Author.Rules.{rules}
 use Rattle.engine.specs.configs.Subjects.{nobody}
 use Rattle.engine.specs.configs.Fresh.{starting}
 use Rattle.engine.proofs.configs.starts.fresh_subject.Goals as goal

@@ -1,10 +1,9 @@
-use Prim.Native.Nat.{ℕ, ◌≤◌, ◌<◌, ◌-◌}
 use mathlib.Core.Path.{◌≡◌, refl, sym, ap, ◌∙◌}
 use mathlib.Core.Bool.{true}
 use native.Mathlib.Omega.{arith}
-use borrow.Author.Tests.{lt-ltb, not-true, not-false}
+use borrow.Author.Tests.{lt-ltb}
 use borrow.Author.Rules.{rules}
-use lib.ListN.{length, get_or, length-set}
+use lib.ListN.{length-set}
 use Rattle.sets.specs.Below.{all_below}
 use Rattle.sets.proofs.Below.{all_start, all_more, all_stop, all_end}
 use Rattle.model.specs.Sizes.{most_subjects}
@@ -35,9 +34,9 @@ returns-then-not-subject_valid c =
     let a = c.args in
     let s = c.loop-s.s in
     let there : subject_right a.m a.c s ≡ c.subject_valid.result =
-        rw (lt-ltb s a.m.n c.loop-s-test.true)
-        (sym (subject_read a.m a.c is_right s (subject_there a.m is_right s c.loop-s-test.true))
-        ∙ sym (c.subject_valid.ensures ∙ ap (λ (st : State). subject_valid a.m.n (subject_at a.m s) st (at a.c s)) c.unpack-here.ensures)) in
+    rw (lt-ltb s a.m.n c.loop-s-test.true)
+    (sym (subject_read a.m a.c is_right s (subject_there a.m is_right s c.loop-s-test.true))
+    ∙ sym (c.subject_valid.ensures ∙ ap (λ (st : State). subject_valid a.m.n (subject_at a.m s) st (at a.c s)) c.unpack-here.ensures)) in
     rw (is_right, all_stop (subject_right a.m a.c) s most_subjects (subject_there a.m is_right s c.loop-s-test.true) (there ∙ c.if-not-subject_valid.true))
 
 pub loop-s-preserved : goal.loop-s-preserved
@@ -47,9 +46,9 @@ loop-s-preserved c =
     let a = c.args in
     let s = c.loop-s.s in
     let there : subject_right a.m a.c s ≡ c.subject_valid.result =
-        rw (lt-ltb s a.m.n c.loop-s-test.true)
-        (sym (subject_read a.m a.c is_right s (subject_there a.m is_right s c.loop-s-test.true))
-        ∙ sym (c.subject_valid.ensures ∙ ap (λ (st : State). subject_valid a.m.n (subject_at a.m s) st (at a.c s)) c.unpack-here.ensures)) in
+    rw (lt-ltb s a.m.n c.loop-s-test.true)
+    (sym (subject_read a.m a.c is_right s (subject_there a.m is_right s c.loop-s-test.true))
+    ∙ sym (c.subject_valid.ensures ∙ ap (λ (st : State). subject_valid a.m.n (subject_at a.m s) st (at a.c s)) c.unpack-here.ensures)) in
     let inv = c.loop-s.invariant in (
       inv.0,
       search rules,
@@ -84,8 +83,8 @@ returns-then-not-places_of c =
     let below : all_below (subject_right c.args.m c.args.c) c.args.m.n ≡ true = let inv = c.loop-s.invariant in all_end _ _ _ inv.1 c.loop-s-test.false inv.2 in
     let rest : all_below (subject_right c.args.m c.args.c) most_subjects ≡ c.rest_nobody.result = sym (c.rest_nobody.ensures ∙ subjects_rest c.args.m c.args.c is_right below) in
     let places : places_right c.args.m c.args.c ≡ c.places_of.result =
-        sym (c.places_of.ensures
-        ∙ places_read c.args.m c.args.c is_right (rest ∙ c.if-not-rest_nobody.false) _ (λ s l. c.loop-s.invariant.4 s (omega (arith, l, c.loop-s-test.false)))) in
+    sym (c.places_of.ensures
+    ∙ places_read c.args.m c.args.c is_right (rest ∙ c.if-not-rest_nobody.false) _ (λ s l. c.loop-s.invariant.4 s (omega (arith, l, c.loop-s-test.false)))) in
     rw (is_right, rest ∙ c.if-not-rest_nobody.false, places ∙ c.if-not-places_of.true)
 
 pub returns : goal.returns
@@ -95,6 +94,6 @@ returns c =
     let below : all_below (subject_right c.args.m c.args.c) c.args.m.n ≡ true = let inv = c.loop-s.invariant in all_end _ _ _ inv.1 c.loop-s-test.false inv.2 in
     let rest : all_below (subject_right c.args.m c.args.c) most_subjects ≡ c.rest_nobody.result = sym (c.rest_nobody.ensures ∙ subjects_rest c.args.m c.args.c is_right below) in
     let places : places_right c.args.m c.args.c ≡ c.places_of.result =
-        sym (c.places_of.ensures
-        ∙ places_read c.args.m c.args.c is_right (rest ∙ c.if-not-rest_nobody.false) _ (λ s l. c.loop-s.invariant.4 s (omega (arith, l, c.loop-s-test.false)))) in
+    sym (c.places_of.ensures
+    ∙ places_read c.args.m c.args.c is_right (rest ∙ c.if-not-rest_nobody.false) _ (λ s l. c.loop-s.invariant.4 s (omega (arith, l, c.loop-s-test.false)))) in
     rw (is_right, rest ∙ c.if-not-rest_nobody.false, places ∙ c.if-not-places_of.false)

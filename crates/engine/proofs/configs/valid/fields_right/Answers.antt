@@ -1,4 +1,3 @@
-use borrow.Author.Rules.{rules}
 use Rattle.engine.specs.configs.Valid.{fields_right}
 use Rattle.engine.proofs.configs.valid.fields_right.Goals as goal
 

@@ -1,5 +1,4 @@
 use borrow.Author.Tests.{eq-eqb, ne_eqb}
-use borrow.Author.Rules.{rules}
 use Rattle.engine.proofs.configs.valid.improper_right.Goals as goal
 
 pub returns-then-x-ne3 : goal.returns-then-x-ne3

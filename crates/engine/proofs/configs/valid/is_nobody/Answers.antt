@@ -1,7 +1,5 @@
 use mathlib.Core.Path.{sym, ◌∙◌, ◌≡◌}
 use mathlib.Core.Bool.{Bool, ◌&&◌, and_assoc}
-use borrow.Author.Tests.{not-true, not-false}
-use borrow.Author.Rules.{rules}
 use lib.Dec.{eqb}
 use Rattle.engine.specs.configs.Valid.{marks_right, is_nobody}
 use Rattle.engine.specs.pools.Sizes.{most_entries}

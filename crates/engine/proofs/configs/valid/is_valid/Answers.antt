@@ -1,6 +1,5 @@
 use mathlib.Core.Path.{◌≡◌, refl}
 use mathlib.Core.Bool.{true, false, ◌&&◌, cond, Bool}
-use borrow.Author.Rules.{rules}
 use lib.Dec.{eqb}
 use Rattle.model.specs.Valid.{valid}
 use Rattle.engine.specs.configs.Valid.{config_valid, fault_of}

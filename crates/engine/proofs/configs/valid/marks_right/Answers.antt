@@ -1,11 +1,5 @@
-use Prim.Native.Nat.{◌≤◌, ◌-◌}
-use mathlib.Core.Path.{sym, ◌∙◌, ◌≡◌}
-use mathlib.Core.Bool.{true, ◌||◌}
-use borrow.Author.Tests.{not-true, not-false}
+use mathlib.Core.Path.{sym, ◌∙◌}
 use borrow.Author.Rules.{rules}
-use lib.Dec.{eqb, ltb}
-use lib.ListN.{get_or}
-use Rattle.sets.specs.Below.{all_below}
 use Rattle.sets.proofs.Below.{all_start, all_more, all_stop, all_end}
 use Rattle.engine.specs.configs.Valid.{marks_right}
 use Rattle.engine.proofs.configs.valid.marks_right.Goals as goal

@@ -1,4 +1,3 @@
-use borrow.Author.Rules.{rules}
 use Rattle.engine.proofs.configs.valid.mask_right.Goals as goal
 
 pub returns : goal.returns

@@ -1,8 +1,6 @@
 use Prim.Native.Nat.{◌≤◌, ◌-◌}
-use mathlib.Core.Path.{◌≡◌, refl, ◌∙◌}
-use borrow.Author.Rules.{rules}
+use mathlib.Core.Path.{◌≡◌}
 use Rattle.sets.specs.Below.{filled}
-use Rattle.sets.proofs.Below.{fill_start, fill_turn, fill_end}
 use Rattle.engine.specs.configs.Subjects.{at}
 use Rattle.engine.proofs.configs.valid.masks_of.Given as goal
 

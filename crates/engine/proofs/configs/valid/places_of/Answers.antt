@@ -1,8 +1,6 @@
-use Prim.Native.Nat.{ℕ, ◌≤◌, ◌-◌}
+use Prim.Native.Nat.{ℕ}
 use mathlib.Core.Path.{◌≡◌, sym, ap, ◌∙◌}
-use mathlib.Core.Bool.{Bool, true}
 use mathlib.Core.List.{List}
-use borrow.Author.Tests.{not-true, not-false}
 use borrow.Author.Rules.{rules}
 use lib.ListN.{get_or}
 use Rattle.sets.specs.Below.{all_below}
@@ -10,7 +8,6 @@ use Rattle.sets.proofs.Below.{all_start, all_more, all_stop, all_end}
 use Rattle.engine.specs.configs.Subjects.{at}
 use Rattle.engine.specs.configs.Valid.{place_right}
 use Rattle.engine.specs.inner.Reads.{places_of}
-use Rattle.engine.specs.declared.Config.{Config}
 use Rattle.engine.proofs.configs.FaultLaws.{masks_read}
 use Rattle.engine.proofs.configs.valid.places_of.Invariants.{placed}
 use Rattle.engine.proofs.configs.valid.places_of.Goals as goal

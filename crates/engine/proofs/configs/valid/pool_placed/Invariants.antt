@@ -1,11 +1,8 @@
 use Prim.Native.Nat.{◌≤◌, ◌-◌}
-use mathlib.Core.Path.{sym, ◌∙◌, ◌≡◌}
+use mathlib.Core.Path.{◌≡◌}
 use mathlib.Core.Bool.{true}
-use borrow.Author.Tests.{not-true, not-false}
-use borrow.Author.Rules.{rules}
 use lib.ListN.{get_or}
 use Rattle.sets.specs.Below.{all_below}
-use Rattle.sets.proofs.Below.{all_start, all_more, all_stop, all_end}
 use Rattle.engine.specs.configs.Valid.{place_right}
 use Rattle.engine.proofs.configs.valid.pool_placed.Given as goal
 

@@ -1,11 +1,8 @@
 use Prim.Native.Nat.{◌≤◌, ◌-◌}
-use mathlib.Core.Path.{◌≡◌, sym, ◌∙◌}
+use mathlib.Core.Path.{◌≡◌}
 use mathlib.Core.Bool.{true, ◌||◌}
-use borrow.Author.Tests.{lt-ltb, le-ltb, not-true, not-false}
-use borrow.Author.Rules.{rules}
 use lib.Dec.{ltb}
 use Rattle.sets.specs.Below.{all_below}
-use Rattle.sets.proofs.Below.{all_more, all_stop, all_end, all_by}
 use Rattle.engine.specs.configs.Subjects.{at}
 use Rattle.engine.specs.configs.Valid.{is_nobody}
 use Rattle.engine.proofs.configs.valid.rest_nobody.Given as goal

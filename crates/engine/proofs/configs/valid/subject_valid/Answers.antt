@@ -1,6 +1,4 @@
 use mathlib.Core.Path.{sym, ◌∙◌}
-use borrow.Author.Tests.{not-true, not-false}
-use borrow.Author.Rules.{rules}
 use Rattle.engine.specs.configs.Valid.{subject_valid}
 use Rattle.engine.proofs.configs.valid.subject_valid.Goals as goal
 

@@ -1,5 +1,4 @@
 use mathlib.Core.Path.{refl, sym}
-use borrow.Author.Rules.{rules}
 use Rattle.engine.specs.pools.Sizes.{most_entries}
 use Rattle.engine.specs.pools.Pools.{held}
 use Rattle.engine.proofs.pools.PoolLaws.{pooled_held, store_is}

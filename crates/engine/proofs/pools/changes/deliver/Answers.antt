@@ -1,13 +1,12 @@
-use Prim.Native.Nat.{◌≤◌, ◌-◌}
 use mathlib.Core.Path.{◌≡◌, ◌∙◌}
-use mathlib.Core.List.{[], map}
+use mathlib.Core.List.{[]}
 use native.Mathlib.Omega.{arith}
 use borrow.Author.Rules.{rules}
-use lib.ListN.{length, take}
+use lib.ListN.{length}
 use lib.Seq.{take_all}
 use Rattle.engine.specs.pools.Sizes.{most_entries}
 use Rattle.engine.specs.pools.Entries.{delivered}
-use Rattle.engine.specs.pools.Pools.{held, pooled, delivered_in}
+use Rattle.engine.specs.pools.Pools.{held, delivered_in}
 use Rattle.sets.proofs.Arrays.{length_mapped}
 use Rattle.engine.proofs.pools.PoolLaws.{held_fits, count_pooled, store_is, map_turn}
 use Rattle.engine.proofs.pools.changes.deliver.Goals as goal

@@ -1,6 +1,5 @@
 use mathlib.Core.Path.{◌≡◌}
 use native.Mathlib.Omega.{arith}
-use borrow.Author.Rules.{rules}
 use lib.ListN.{length, get_or-eq_default}
 use Rattle.engine.specs.pools.Entries.{blank_entry}
 use Rattle.engine.specs.pools.Pools.{held, taken_at}

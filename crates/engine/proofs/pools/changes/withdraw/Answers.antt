@@ -1,11 +1,9 @@
-use Prim.Native.Nat.{ℕ, ◌≤◌, ◌<◌, ◌-◌}
+use Prim.Native.Nat.{◌<◌}
 use mathlib.Core.Path.{◌≡◌, refl, ap, ap₂, ◌∙◌}
 use mathlib.Core.Bool.{Bool, not}
-use mathlib.Core.List.{List}
-use mathlib.Core.Logic.{⊎_elim}
 use native.Mathlib.Omega.{arith}
 use borrow.Author.Rules.{rules}
-use lib.ListN.{length, take}
+use lib.ListN.{length}
 use lib.Seq.{take_all}
 use Rattle.sets.specs.Lists.{passing}
 use Rattle.model.specs.Rules.{any}
@@ -39,17 +37,17 @@ loop-j-preserved c =
     let turn = passing_turn most_entries a.p (stored c.loop-j.kept c.loop-j.at) c.loop-j.j here stays _ kept inv.3 in
     elim c.if-not-reserved_by.branch [
       | then-not-reserved_by w ↦ (
-          search rules,
-          search rules,
-          rw w.at-is (omega (arith, inv.2)),
-          ap₂ stored w.kept-is w.at-is ∙ store_is most_entries _ _ inv.3 _ _ refl (omega (arith, inv.0, inv.2, l)) ∙ (rw (ap not w.if-not-reserved_by.true) at turn),
-        )
+        search rules,
+        search rules,
+        rw w.at-is (omega (arith, inv.2)),
+        ap₂ stored w.kept-is w.at-is ∙ store_is most_entries _ _ inv.3 _ _ refl (omega (arith, inv.0, inv.2, l)) ∙ (rw (ap not w.if-not-reserved_by.true) at turn),
+      )
       | else-not-reserved_by w ↦ (
-          search rules,
-          search rules,
-          rw w.at-is (omega (arith, inv.2)),
-          ap₂ stored w.kept-is w.at-is ∙ (rw (ap not w.if-not-reserved_by.false) at turn),
-        )
+        search rules,
+        search rules,
+        rw w.at-is (omega (arith, inv.2)),
+        ap₂ stored w.kept-is w.at-is ∙ (rw (ap not w.if-not-reserved_by.false) at turn),
+      )
     ]
 
 pub returns : goal.returns

@@ -1,21 +1,15 @@
-use Prim.Native.Nat.{ℕ, ◌≤◌, ◌<◌, ◌-◌}
-use mathlib.Core.Path.{◌≡◌, refl, ap, ap₂, ◌∙◌}
-use mathlib.Core.Bool.{Bool, not}
+use Prim.Native.Nat.{ℕ, ◌≤◌, ◌-◌}
+use mathlib.Core.Path.{◌≡◌}
+use mathlib.Core.Bool.{not}
 use mathlib.Core.List.{List}
-use mathlib.Core.Logic.{⊎_elim}
-use native.Mathlib.Omega.{arith}
-use borrow.Author.Rules.{rules}
-use lib.ListN.{length, take}
-use lib.Seq.{take_all}
+use lib.ListN.{take}
 use Rattle.sets.specs.Lists.{passing}
 use Rattle.model.specs.Rules.{any}
 use Rattle.engine.specs.pools.Sizes.{most_entries}
 use Rattle.engine.specs.pools.Entries.{reserved_by}
-use Rattle.engine.specs.pools.Pools.{held, pooled, withdrawn_from}
+use Rattle.engine.specs.pools.Pools.{held, pooled}
 use Rattle.engine.specs.declared.Entry.{Entry}
 use Rattle.engine.specs.declared.Pool.{Pool}
-use Rattle.sets.proofs.Arrays.{length_mapped}
-use Rattle.engine.proofs.pools.PoolLaws.{held_fits, store_is, passing_turn}
 use Rattle.engine.proofs.pools.changes.withdraw.Given as goal
 
 -- so many of the entries that are kept

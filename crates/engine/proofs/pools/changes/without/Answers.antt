@@ -1,15 +1,12 @@
-use Prim.Native.Nat.{◌≤◌, ◌-◌}
 use mathlib.Core.Path.{◌≡◌, refl, ◌∙◌}
 use mathlib.Core.List.{[]}
-use mathlib.Core.Logic.{⊎_elim}
 use native.Mathlib.Omega.{arith}
 use borrow.Author.Tests.{eq-eqb, ne_eqb}
 use borrow.Author.Rules.{rules}
-use lib.ListN.{length, take}
+use lib.ListN.{length}
 use lib.Seq.{take_all}
-use Rattle.sets.specs.Lists.{without}
 use Rattle.engine.specs.pools.Sizes.{most_entries}
-use Rattle.engine.specs.pools.Pools.{held, pooled, taken_at}
+use Rattle.engine.specs.pools.Pools.{held, taken_at}
 use Rattle.sets.proofs.Arrays.{length_mapped}
 use Rattle.sets.proofs.Lists.{without_none}
 use Rattle.engine.proofs.pools.PoolLaws.{held_fits, count_pooled, store_is, without_turn}
@@ -31,17 +28,17 @@ loop-j-preserved c =
     let turn = without_turn most_entries a.p c.loop-j.q c.loop-j.j (omega (arith, u, l)) a.i inv.3 in
     elim c.if-j-i.branch [
       | then-j-i w ↦ (
-          search rules,
-          search rules,
-          rw w.q-is (omega (arith, inv.2)),
-          w.q-is ∙ store_is most_entries _ _ inv.3 _ _ refl (omega (arith, inv.0, inv.2, l)) ∙ (rw (ne_eqb _ _ w.if-j-i.true) at turn),
-        )
+        search rules,
+        search rules,
+        rw w.q-is (omega (arith, inv.2)),
+        w.q-is ∙ store_is most_entries _ _ inv.3 _ _ refl (omega (arith, inv.0, inv.2, l)) ∙ (rw (ne_eqb _ _ w.if-j-i.true) at turn),
+      )
       | else-j-i w ↦ (
-          search rules,
-          search rules,
-          rw w.q-is (omega (arith, inv.2)),
-          w.q-is ∙ (rw (eq-eqb _ _ w.if-j-i.false) at turn),
-        )
+        search rules,
+        search rules,
+        rw w.q-is (omega (arith, inv.2)),
+        w.q-is ∙ (rw (eq-eqb _ _ w.if-j-i.false) at turn),
+      )
     ]
 
 pub returns : goal.returns

@@ -1,5 +1,4 @@
 use mathlib.Core.Path.{sym, ◌∙◌}
-use borrow.Author.Rules.{rules}
 use Rattle.engine.specs.pools.Entries.{delivered}
 use Rattle.engine.proofs.pools.entries.deliver_entry.Goals as goal
 

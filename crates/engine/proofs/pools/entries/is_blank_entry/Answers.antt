@@ -1,4 +1,3 @@
-use borrow.Author.Rules.{rules}
 use Rattle.engine.proofs.pools.entries.is_blank_entry.Goals as goal
 
 pub returns : goal.returns

@@ -1,4 +1,3 @@
-use borrow.Author.Rules.{rules}
 use Rattle.engine.specs.pools.Entries.{is_message}
 use Rattle.engine.proofs.pools.entries.message_matching.Goals as goal
 

@@ -1,4 +1,3 @@
-use borrow.Author.Rules.{rules}
 use Rattle.engine.specs.pools.Entries.{reserved_by}
 use Rattle.engine.proofs.pools.entries.reserved_by.Goals as goal
 

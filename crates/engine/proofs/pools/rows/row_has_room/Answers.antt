@@ -1,6 +1,5 @@
 use mathlib.Core.Path.{sym, ◌∙◌}
-use borrow.Author.Tests.{lt-ltb, le-ltb, not-true, not-false}
-use borrow.Author.Rules.{rules}
+use borrow.Author.Tests.{lt-ltb, le-ltb}
 use Rattle.engine.specs.pools.Rows.{row_count, row_has_room}
 use Rattle.engine.proofs.pools.rows.row_has_room.Goals as goal
 

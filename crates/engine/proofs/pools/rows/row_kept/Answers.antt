@@ -1,5 +1,4 @@
 use borrow.Author.Tests.{lt-ltb, le-ltb}
-use borrow.Author.Rules.{rules}
 use Rattle.engine.specs.pools.Rows.{row_count, row_kept}
 use Rattle.engine.proofs.pools.rows.row_kept.Goals as goal
 

@@ -1,14 +1,7 @@
-use Prim.Native.Nat.{◌≤◌, ◌-◌}
-use mathlib.Core.Path.{◌≡◌, sym, ◌∙◌}
-use mathlib.Core.Bool.{true, ◌||◌, not}
-use borrow.Author.Tests.{not-true, not-false}
+use mathlib.Core.Path.{sym, ◌∙◌}
 use borrow.Author.Rules.{rules}
-use lib.Dec.{ltb}
-use Rattle.sets.specs.Below.{all_below}
 use Rattle.sets.proofs.Below.{all_start, all_more, all_stop, all_end}
-use Rattle.model.specs.Valid.{row_at}
-use Rattle.engine.specs.pools.Pools.{held}
-use Rattle.engine.specs.pools.Rows.{row_kept, rows_kept}
+use Rattle.engine.specs.pools.Rows.{rows_kept}
 use Rattle.engine.proofs.pools.rows.rows_kept.Goals as goal
 
 pub loop-k-init : goal.loop-k-init

@@ -1,16 +1,9 @@
-use Prim.Native.Nat.{◌+◌, ◌≤◌, ◌<◌, ◌-◌}
-use mathlib.Core.Path.{◌≡◌, refl, sym, ap, ◌∙◌}
-use native.Mathlib.Omega.{arith}
-use borrow.Author.Rules.{rules}
-use lib.ListN.{length, take, length-take}
-use lib.Seq.{take_all}
+use Prim.Native.Nat.{◌≤◌, ◌-◌}
+use mathlib.Core.Path.{◌≡◌}
+use lib.ListN.{take}
 use Rattle.sets.specs.Lists.{counted}
-use Rattle.sets.proofs.Lists.{counted_bound}
 use Rattle.engine.specs.pools.Entries.{matches}
 use Rattle.engine.specs.pools.Pools.{held}
-use Rattle.sets.proofs.Arrays.{length_mapped}
-use Rattle.engine.proofs.pools.EntryLaws.{counted_any}
-use Rattle.engine.proofs.pools.PoolLaws.{held_fits, count_turn}
 use Rattle.engine.proofs.pools.searches.count.Given as goal
 
 abbrev pub invariant-loop-i : goal.invariant-loop-i

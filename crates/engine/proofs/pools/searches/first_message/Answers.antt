@@ -1,12 +1,9 @@
-use Prim.Native.Nat.{◌≤◌, ◌-◌}
 use mathlib.Core.Path.{◌≡◌, refl, sym, ◌∙◌}
 use native.Mathlib.Omega.{arith}
 use borrow.Author.Rules.{rules}
-use lib.ListN.{length, drop}
-use Rattle.sets.specs.Lists.{first_from}
+use lib.ListN.{length}
 use Rattle.sets.proofs.Lists.{find_end}
-use Rattle.engine.specs.pools.Entries.{is_message}
-use Rattle.engine.specs.pools.Pools.{held, first_message}
+use Rattle.engine.specs.pools.Pools.{first_message}
 use Rattle.sets.proofs.Arrays.{length_mapped}
 use Rattle.engine.proofs.pools.PoolLaws.{held_fits, search_hit, search_miss}
 use Rattle.engine.proofs.pools.searches.first_message.Goals as goal
@@ -23,13 +20,12 @@ returns-then-message_matching c =
     ∙ c.loop-i.invariant.2
 
 pub loop-i-preserved : goal.loop-i-preserved
-loop-i-preserved c =
-    (
-      search rules,
-      search rules,
-      sym (search_miss c.args.p _ _ (omega (arith, c.used-n.ensures, c.loop-i-test.true)) (sym c.message_matching.ensures ∙ c.if-message_matching.false))
-          ∙ c.loop-i.invariant.2,
-    )
+loop-i-preserved c = (
+  search rules,
+  search rules,
+  sym (search_miss c.args.p _ _ (omega (arith, c.used-n.ensures, c.loop-i-test.true)) (sym c.message_matching.ensures ∙ c.if-message_matching.false))
+      ∙ c.loop-i.invariant.2,
+)
 
 pub returns : goal.returns
 unfolding first_message

@@ -1,14 +1,9 @@
 use Prim.Native.Nat.{◌≤◌, ◌-◌}
-use mathlib.Core.Path.{◌≡◌, refl, sym, ◌∙◌}
-use native.Mathlib.Omega.{arith}
-use borrow.Author.Rules.{rules}
-use lib.ListN.{length, drop}
+use mathlib.Core.Path.{◌≡◌}
+use lib.ListN.{drop}
 use Rattle.sets.specs.Lists.{first_from}
-use Rattle.sets.proofs.Lists.{find_end}
 use Rattle.engine.specs.pools.Entries.{is_message}
-use Rattle.engine.specs.pools.Pools.{held, first_message}
-use Rattle.sets.proofs.Arrays.{length_mapped}
-use Rattle.engine.proofs.pools.PoolLaws.{held_fits, search_hit, search_miss}
+use Rattle.engine.specs.pools.Pools.{held}
 use Rattle.engine.proofs.pools.searches.first_message.Given as goal
 
 abbrev pub invariant-loop-i : goal.invariant-loop-i

@@ -1,5 +1,4 @@
 use mathlib.Core.Path.{sym, ◌∙◌}
-use borrow.Author.Rules.{rules}
 use Rattle.engine.proofs.pools.EntryLaws.{message_found, message_none}
 use Rattle.engine.proofs.pools.searches.has_message.Goals as goal
 

@@ -1,6 +1,5 @@
 use mathlib.Core.Path.{◌≡◌, sym, ◌∙◌}
 use native.Mathlib.Omega.{arith}
-use borrow.Author.Rules.{rules}
 use lib.ListN.{length}
 use Rattle.sets.proofs.Arrays.{length_mapped}
 use Rattle.engine.proofs.pools.PoolLaws.{held_few, held_full}

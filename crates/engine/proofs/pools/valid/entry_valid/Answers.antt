@@ -1,4 +1,3 @@
-use borrow.Author.Rules.{rules}
 use Rattle.engine.specs.pools.Valid.{entry_valid}
 use Rattle.engine.proofs.pools.valid.entry_valid.Goals as goal
 

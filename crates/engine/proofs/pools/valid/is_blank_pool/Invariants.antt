@@ -1,14 +1,9 @@
 use Prim.Native.Nat.{◌≤◌, ◌-◌}
-use mathlib.Core.Path.{◌≡◌, sym, ◌∙◌}
+use mathlib.Core.Path.{◌≡◌}
 use mathlib.Core.Bool.{true}
-use borrow.Author.Tests.{eq-eqb, ne_eqb, not-true, not-false}
-use borrow.Author.Rules.{rules}
 use lib.ListN.{get_or}
 use Rattle.sets.specs.Below.{all_below}
-use Rattle.sets.proofs.Tests.{and_true}
-use Rattle.sets.proofs.Below.{all_start, all_more, all_stop, all_end}
 use Rattle.engine.specs.pools.Entries.{blank_entry, is_blank_entry}
-use Rattle.engine.specs.pools.Valid.{is_blank_pool}
 use Rattle.engine.proofs.pools.valid.is_blank_pool.Given as goal
 
 abbrev pub invariant-loop-i : goal.invariant-loop-i

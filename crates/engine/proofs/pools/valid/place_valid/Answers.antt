@@ -1,5 +1,4 @@
 use borrow.Author.Tests.{lt-ltb, le-ltb}
-use borrow.Author.Rules.{rules}
 use Rattle.engine.proofs.pools.valid.place_valid.Goals as goal
 
 pub returns-then-i-count : goal.returns-then-i-count

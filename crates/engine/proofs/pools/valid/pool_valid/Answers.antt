@@ -1,6 +1,5 @@
 use mathlib.Core.Path.{sym, ◌∙◌}
-use borrow.Author.Tests.{le-leb, lt-leb, not-true, not-false}
-use borrow.Author.Rules.{rules}
+use borrow.Author.Tests.{le-leb, lt-leb}
 use Rattle.engine.specs.pools.Valid.{pool_valid}
 use Rattle.engine.proofs.pools.valid.pool_valid.Goals as goal
 

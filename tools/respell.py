@@ -36,7 +36,7 @@ def spelled(name):
 
 def of_function(path):
     """Whether the file is part of the proof of one function."""
-    return os.path.basename(path) in ("Proof.antt", "Answers.antt", "Invariants.antt")
+    return "/proofs/" in path and os.path.basename(path) in ("Proof.antt", "Answers.antt", "Invariants.antt")
 
 
 def files(root, *endings):
@@ -121,7 +121,8 @@ def clauses(text, new):
 
 
 def spans(text, new):
-    """The .md text with each word of a code span turned."""
+    """The .md text with each word of a code span turned; a word with an underscore may be an edit's or a function's, and stays."""
+    new = {old: to for old, to in new.items() if "_" not in old}
     return re.sub(r"`[^`\n]+`", lambda m: code(m[0].strip("`"), new, True).join("``"), text)
 
 

@@ -16,7 +16,7 @@ use Rattle.model.specs.Valid.{valid}
 use Rattle.model.specs.declared.Model.{Model}
 use Rattle.model_promises.proofs.Loads.{refused_empty}
 use Rattle.engine.specs.pools.Sizes.{most_entries}
-use Rattle.engine.specs.configs.Answers.{refusal_of, is_yes, shareRefusal, refused, done}
+use Rattle.engine.specs.configs.Answers.{refusal_of, is_yes, share_refusal, refused, done}
 use Rattle.engine.specs.configs.Fresh.{fresh_config, fresh_of}
 use Rattle.engine.specs.configs.Shares.{shared_out, share_of}
 use Rattle.engine.specs.configs.Subjects.{zero_config}
@@ -39,11 +39,11 @@ use Rattle.demands.specs.Answers.{Answers, EveryCallAnswers}
 -- accepted, whatever the numbers
 answers_accepted : (ks : List ℕ) (c : Config) (r : Stepped) → refusal_of r.answer ≡ 0 → Answers ks c r
 unfolding is_one_of
-answers_accepted ks c r fine = record { number = rw fine; refusedSo = λ some. absurd (some fine) }
+answers_accepted ks c r fine = record { number = rw fine; refused_so = λ some. absurd (some fine) }
 
 -- refused with one of the numbers
 answers_refused : (ks : List ℕ) (c : Config) (k : ℕ) → is_one_of ks k ≡ true → Answers ks c (refused c k)
-answers_refused ks c k h = record { number = one_more 0 ks k h; refusedSo = λ _. refl }
+answers_refused ks c k h = record { number = one_more 0 ks k h; refused_so = λ _. refl }
 
 -- rules with such numbers, before what is accepted
 answers_by : (ks : List ℕ) (c : Config) (list : List (Bool × ℕ)) (next : Stepped) → refusal_of next.answer ≡ 0
@@ -51,7 +51,7 @@ answers_by : (ks : List ℕ) (c : Config) (list : List (Bool × ℕ)) (next : St
 answers_by ks c list next fine all =
     record {
       number = rw (guarded_refusal c list next fine) (number_in_lem ks list all);
-      refusedSo = λ some.
+      refused_so = λ some.
           let r = (refusal_number c list next fine _ some).0 refl in
           first_refuses c list next r.rule r.first ∙ ap (refused c) r.number;
     }
@@ -76,8 +76,8 @@ fresh_answers m =
 
 -- a refusal has the number 8 or 11, and is no yes
 record ShareAnswers (x : Share) : Type 0 where
-  number : is_one_of (0 ∷ 8 ∷ 11 ∷ []) (shareRefusal x) ≡ true
-  refused_no : shareRefusal x ≢ 0 → is_yes x ≡ false
+  number : is_one_of (0 ∷ 8 ∷ 11 ∷ []) (share_refusal x) ≡ true
+  refused_no : share_refusal x ≢ 0 → is_yes x ≡ false
 
 -- so the yes/no for a pool
 share_answers : (m : Model) (owner : ℕ) → ShareAnswers (share_of most_entries m owner)
@@ -115,12 +115,12 @@ pub every_call_answers : EveryCallAnswers
 every_call_answers =
     record {
       load = λ file. load_number (loaded file).verdict;
-      loadRefused = λ file some. refused_empty file (λ good. some (ap verdicts.refusal_of good));
+      load_refused = λ file some. refused_empty file (λ good. some (ap verdicts.refusal_of good));
       fresh = fresh_answers;
       step = step_answers;
       step_coded = coded_answers;
       shared = λ m owner. (share_answers m owner).number;
-      sharedRefused = λ m owner. (share_answers m owner).refused_no;
+      shared_refused = λ m owner. (share_answers m owner).refused_no;
       run = run_answers;
-      runRefused = refused_unwritten;
+      run_refused = refused_unwritten;
     }

@@ -6,7 +6,7 @@ use Rattle.blocks.specs.Verdicts as verdicts
 use Rattle.model.specs.Loading.{empty_model, loaded}
 use Rattle.model.specs.declared.Model.{Model}
 use Rattle.engine.specs.pools.Sizes.{most_entries}
-use Rattle.engine.specs.configs.Answers.{refusal_of, is_yes, shareRefusal, refused}
+use Rattle.engine.specs.configs.Answers.{refusal_of, is_yes, share_refusal, refused}
 use Rattle.engine.specs.configs.Fresh.{fresh_of}
 use Rattle.engine.specs.configs.Shares.{share_of}
 use Rattle.engine.specs.configs.Subjects.{zero_config}
@@ -19,19 +19,19 @@ use Rattle.engine.specs.declared.Command.{Command}
 -- the answer is accepted or has one of these numbers; with a number it is nothing but the number and this configuration
 pub record Answers (numbers : List ℕ) (back : Config) (answered : Stepped) : Type 0 where
   pub number : is_one_of (0 ∷ numbers) (refusal_of answered.answer) ≡ true
-  pub refusedSo : refusal_of answered.answer ≢ 0 → answered ≡ refused back (refusal_of answered.answer)
+  pub refused_so : refusal_of answered.answer ≢ 0 → answered ≡ refused back (refusal_of answered.answer)
 
 -- what each call answers, for every input
 pub record EveryCallAnswers : Type 0 where
   pub load : (file : List ℕ) → is_one_of (0 ∷ 1 ∷ 2 ∷ 3 ∷ 4 ∷ 5 ∷ []) (verdicts.refusal_of (loaded file).verdict) ≡ true
-  pub loadRefused : (file : List ℕ) → verdicts.refusal_of (loaded file).verdict ≢ 0 → (loaded file).model ≡ empty_model
+  pub load_refused : (file : List ℕ) → verdicts.refusal_of (loaded file).verdict ≢ 0 → (loaded file).model ≡ empty_model
   pub fresh : (m : Model) → Answers (8 ∷ []) zero_config (fresh_of m)
   pub step : (m : Model) (c : Config) (k : Command)
       → Answers (8 ∷ 10 ∷ 11 ∷ 12 ∷ 13 ∷ 14 ∷ 15 ∷ 16 ∷ 17 ∷ 18 ∷ 19 ∷ 20 ∷ []) c (stepped m c k)
   pub step_coded : (m : Model) (c : Config) (b : List ℕ)
       → Answers (8 ∷ 9 ∷ 10 ∷ 11 ∷ 12 ∷ 13 ∷ 14 ∷ 15 ∷ 16 ∷ 17 ∷ 18 ∷ 19 ∷ 20 ∷ []) c (coded_step m c b)
-  pub shared : (m : Model) (owner : ℕ) → is_one_of (0 ∷ 8 ∷ 11 ∷ []) (shareRefusal (share_of most_entries m owner)) ≡ true
-  pub sharedRefused : (m : Model) (owner : ℕ) → shareRefusal (share_of most_entries m owner) ≢ 0 → is_yes (share_of most_entries m owner) ≡ false
+  pub shared : (m : Model) (owner : ℕ) → is_one_of (0 ∷ 8 ∷ 11 ∷ []) (share_refusal (share_of most_entries m owner)) ≡ true
+  pub shared_refused : (m : Model) (owner : ℕ) → share_refusal (share_of most_entries m owner) ≢ 0 → is_yes (share_of most_entries m owner) ≡ false
   pub run : (m : Model) (c : Config) (tape : List ℕ) (room : ℕ) → Answers (8 ∷ 10 ∷ 6 ∷ []) c (ran m c tape room)
-  pub runRefused : (m : Model) (c : Config) (tape lines : List ℕ)
+  pub run_refused : (m : Model) (c : Config) (tape lines : List ℕ)
       → refusal_of (ran m c tape (length lines)).answer ≢ 0 → written m c tape lines ≡ lines

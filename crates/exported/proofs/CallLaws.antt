@@ -153,8 +153,8 @@ module _ (file room : List ℕ) (n : ℕ) (number : n ≡ loader_number file) wh
   loader : not (eqb n 0) ≡ not (eqb (loader_number file) 0)
   loader = ap (λ (k : ℕ). not (eqb k 0)) number
 
-  pub load_refused : n ≢ 0 → (n ≡ first_number (load_refusals file room)) × (room ≡ load_room file room)
-  load_refused h =
+  pub load_refused_lem : n ≢ 0 → (n ≡ first_number (load_refusals file room)) × (room ≡ load_room file room)
+  load_refused_lem h =
       let e = number_here _ (loader_number file) ((ltb (length room) model_size, 6) ∷ []) (sym loader ∙ ap not (ne_eqb n 0 h)) in
       (number ∙ sym e, buffer_kept _ _ room _ e (λ z. h (number ∙ z)))
 
@@ -178,8 +178,8 @@ module _ (file config : List ℕ) (r : ℕ) (verdict : r ≡ verdicts.refusal_of
   judged : not (eqb r 0) ≡ not (valid (model_in file))
   judged = ap (λ (k : ℕ). not (eqb k 0)) verdict ∙ ap not (valid_is file)
 
-  pub fresh_refused : r ≢ 0 → (8 ≡ first_number (fresh_refusals file config)) × (config ≡ fresh_room file config)
-  fresh_refused h =
+  pub fresh_refused_lem : r ≢ 0 → (8 ≡ first_number (fresh_refusals file config)) × (config ≡ fresh_room file config)
+  fresh_refused_lem h =
       let e = number_here _ 8 ((ltb (length config) config_size, 6) ∷ []) (sym judged ∙ ap not (ne_eqb r 0 h)) in
       (sym e, buffer_kept _ 8 config _ e (λ z. absurd (omega (arith, z))))
 

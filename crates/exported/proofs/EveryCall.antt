@@ -25,7 +25,7 @@ use Rattle.exported.specs.Calls.{model_in, eight_of, loader_number, load_refusal
 use Rattle.exported.specs.Answers.{EveryExportedCallAnswers}
 use Rattle.exported.proofs.CallLaws.{buffer_kept}
 use Rattle.exported.proofs.LoadLaws.{load_place}
-use Rattle.exported.proofs.WriteLaws.{write_answer, write_few, write_refused}
+use Rattle.exported.proofs.WriteLaws.{write_answer, write_few, write_refused_lem}
 
 -- every verdict has a number from 0 to 5
 verdict_number : (v : Verdict) → verdicts.refusal_of v < 6
@@ -93,18 +93,18 @@ pub every_exported_call_answers : EveryExportedCallAnswers
 every_exported_call_answers =
     record {
       load = λ file room. below_7 _ (load_number file room).refusal;
-      loadBlock = λ file room. (load_number file room).block;
-      loadRefused = λ file room h. sym (buffer_kept _ _ room _ refl h);
+      load_block = λ file room. (load_number file room).block;
+      load_refused = λ file room h. sym (buffer_kept _ _ room _ refl h);
       write = write_answer;
-      writeLength = write_few;
-      writeRefused = write_refused;
+      write_length = write_few;
+      write_refused = write_refused_lem;
       fresh = fresh_number;
-      freshRefused = λ file config h. sym (buffer_kept _ _ config _ refl h);
+      fresh_refused = λ file config h. sym (buffer_kept _ _ config _ refl h);
       step = step_number;
-      stepRefused = λ file config command values h. (sym (buffer_kept _ _ config _ refl h), sym (buffer_kept _ _ values _ refl h));
+      step_refused = λ file config command values h. (sym (buffer_kept _ _ config _ refl h), sym (buffer_kept _ _ values _ refl h));
       run = run_number;
-      runRefused = λ file config tape lines h. (sym (buffer_kept _ _ config _ refl h), sym (buffer_kept _ _ lines _ refl h));
+      run_refused = λ file config tape lines h. (sym (buffer_kept _ _ config _ refl h), sym (buffer_kept _ _ lines _ refl h));
       walk = walk_number;
-      walkRefused = λ file config tape h. sym (buffer_kept _ _ config _ refl h);
+      walk_refused = λ file config tape h. sym (buffer_kept _ _ config _ refl h);
       shared = λ file owner. shared_number (model_in file) owner;
     }

@@ -76,10 +76,10 @@ module _ (b room : List ℕ) where
   write_in (short e f) = rw e
   write_in (good n e l) = ap (λ (x : ℕ). is_one_of (0 ∷ 8 ∷ 6 ∷ []) x) (let z : write_number b room % 256 ≡ 0 = omega (arith, e) in z)
 
-  write_length : Answers b room → write_number b room / 256 ≤ 22016
-  write_length (bad e f) = omega (arith, e)
-  write_length (short e f) = omega (arith, e)
-  write_length (good n e l) = omega (arith, e, l)
+  write_length_lem : Answers b room → write_number b room / 256 ≤ 22016
+  write_length_lem (bad e f) = omega (arith, e)
+  write_length_lem (short e f) = omega (arith, e)
+  write_length_lem (good n e l) = omega (arith, e, l)
 
   write_kept : Answers b room → write_number b room % 256 ≢ 0 → (write_number b room / 256 ≡ 0) × (write_room b room ≡ room)
   write_kept (bad e f) h = (omega (arith, e), f)
@@ -90,7 +90,7 @@ module _ (b room : List ℕ) where
   write_answer = write_in (answers b room)
 
   pub write_few : write_number b room / 256 ≤ 22016
-  write_few = write_length (answers b room)
+  write_few = write_length_lem (answers b room)
 
-  pub write_refused : write_number b room % 256 ≢ 0 → (write_number b room / 256 ≡ 0) × (write_room b room ≡ room)
-  write_refused = write_kept (answers b room)
+  pub write_refused_lem : write_number b room % 256 ≢ 0 → (write_number b room / 256 ≡ 0) × (write_room b room ≡ room)
+  write_refused_lem = write_kept (answers b room)

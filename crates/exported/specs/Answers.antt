@@ -11,22 +11,22 @@ use Rattle.exported.specs.Calls.{model_in, load_refusals, load_room, write_numbe
 pub record EveryExportedCallAnswers : Type 0 where
   -- the refusal, and the block that it names
   pub load : (file room : List ℕ) → is_one_of (0 ∷ 1 ∷ 2 ∷ 3 ∷ 4 ∷ 5 ∷ 6 ∷ []) (first_number (load_refusals file room) % 256) ≡ true
-  pub loadBlock : (file room : List ℕ) → first_number (load_refusals file room) / 256 < 43
-  pub loadRefused : (file room : List ℕ) → first_number (load_refusals file room) ≢ 0 → load_room file room ≡ room
+  pub load_block : (file room : List ℕ) → first_number (load_refusals file room) / 256 < 43
+  pub load_refused : (file room : List ℕ) → first_number (load_refusals file room) ≢ 0 → load_room file room ≡ room
   -- the refusal, or 256 times the length, which is at most that of 43 blocks
   pub write : (model room : List ℕ) → is_one_of (0 ∷ 8 ∷ 6 ∷ []) (write_number model room % 256) ≡ true
-  pub writeLength : (model room : List ℕ) → write_number model room / 256 ≤ 22016
-  pub writeRefused : (model room : List ℕ) → write_number model room % 256 ≢ 0 → (write_number model room / 256 ≡ 0) × (write_room model room ≡ room)
+  pub write_length : (model room : List ℕ) → write_number model room / 256 ≤ 22016
+  pub write_refused : (model room : List ℕ) → write_number model room % 256 ≢ 0 → (write_number model room / 256 ≡ 0) × (write_room model room ≡ room)
   pub fresh : (file config : List ℕ) → is_one_of (0 ∷ 8 ∷ 6 ∷ []) (first_number (fresh_refusals file config)) ≡ true
-  pub freshRefused : (file config : List ℕ) → first_number (fresh_refusals file config) ≢ 0 → fresh_room file config ≡ config
+  pub fresh_refused : (file config : List ℕ) → first_number (fresh_refusals file config) ≢ 0 → fresh_room file config ≡ config
   pub step : (file config command values : List ℕ)
       → is_one_of (0 ∷ 8 ∷ 9 ∷ 10 ∷ 6 ∷ 11 ∷ 12 ∷ 13 ∷ 14 ∷ 15 ∷ 16 ∷ 17 ∷ 18 ∷ 19 ∷ 20 ∷ []) (first_number (step_refusals file config command values)) ≡ true
-  pub stepRefused : (file config command values : List ℕ) → first_number (step_refusals file config command values) ≢ 0
+  pub step_refused : (file config command values : List ℕ) → first_number (step_refusals file config command values) ≢ 0
       → (step_room file config command values ≡ config) × (step_values file config command values ≡ values)
   pub run : (file config tape lines : List ℕ) → is_one_of (0 ∷ 8 ∷ 10 ∷ 6 ∷ []) (first_number (run_refusals file config tape lines)) ≡ true
-  pub runRefused : (file config tape lines : List ℕ) → first_number (run_refusals file config tape lines) ≢ 0
+  pub run_refused : (file config tape lines : List ℕ) → first_number (run_refusals file config tape lines) ≢ 0
       → (run_room file config tape lines ≡ config) × (run_lines file config tape lines ≡ lines)
   pub walk : (file config : List ℕ) → is_one_of (0 ∷ 8 ∷ 10 ∷ []) (first_number (walk_refusals file config)) ≡ true
-  pub walkRefused : (file config tape : List ℕ) → first_number (walk_refusals file config) ≢ 0 → walk_room file config tape ≡ config
+  pub walk_refused : (file config tape : List ℕ) → first_number (walk_refusals file config) ≢ 0 → walk_room file config tape ≡ config
   -- no, yes, or a refusal; it has no buffer
   pub shared : (file : List ℕ) (owner : ℕ) → is_one_of (0 ∷ 1 ∷ 8 ∷ 11 ∷ []) (share_number (share_of most_entries (model_in file) owner)) ≡ true

@@ -33,7 +33,7 @@ is_yes Yes = true
 is_yes No = false
 is_yes (NotAsked number) = false
 
-abbrev pub shareRefusal : Share → ℕ
-shareRefusal Yes = 0
-shareRefusal No = 0
-shareRefusal (NotAsked number) = number
+abbrev pub share_refusal : Share → ℕ
+share_refusal Yes = 0
+share_refusal No = 0
+share_refusal (NotAsked number) = number

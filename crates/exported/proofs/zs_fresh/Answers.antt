@@ -3,13 +3,13 @@ use Rattle.blocks.specs.Verdicts as verdicts
 use Rattle.model.specs.declared.Loaded.{Loaded}
 use Rattle.model.specs.Loading.{loaded}
 use Rattle.engine.specs.configs.Fresh.{fresh_of}
-use Rattle.exported.proofs.CallLaws.{fresh_refused, fresh_short, fresh_done}
+use Rattle.exported.proofs.CallLaws.{fresh_refused_lem, fresh_short, fresh_done}
 use Rattle.exported.proofs.zs_fresh.Goals as goal
 
 pub returns-then-refusal-ne0 : goal.returns-then-refusal-ne0
 returns-then-refusal-ne0 c =
     let verdict : c.refusal.result ≡ verdicts.refusal_of (loaded c.args.file.now).verdict = (c.refusal.ensures ∙ ap (λ (x : Loaded). verdicts.refusal_of x.verdict) c.load-loaded.ensures) in
-    let done = fresh_refused c.args.file.now c.args.config.now _ verdict c.if-refusal-ne0.true in
+    let done = fresh_refused_lem c.args.file.now c.args.config.now _ verdict c.if-refusal-ne0.true in
     record { result = done.0; config = done.1 }
 
 pub returns-then-config-lt-CONFIG : goal.returns-then-config-lt-CONFIG

@@ -4,7 +4,7 @@ use borrow.Author.Rules.{rules}
 use Rattle.model.specs.declared.Loaded.{Loaded}
 use Rattle.exported.specs.Calls.{loader_number}
 use Rattle.exported.proofs.LoadLaws.{load_place}
-use Rattle.exported.proofs.CallLaws.{load_refused, load_short, load_done}
+use Rattle.exported.proofs.CallLaws.{load_refused_lem, load_short, load_done}
 use Rattle.exported.proofs.zs_load.Goals as goal
 
 pub overflow_cast-number-2 : goal.overflow_cast-number-2
@@ -25,7 +25,7 @@ overflow_add-number c =
 pub returns-then-number-ne0 : goal.returns-then-number-ne0
 returns-then-number-ne0 c =
     let number_is : c.refusal.result + 256 * c.place.result ≡ loader_number c.args.file.now = (rw (c.refusal.ensures, c.place.ensures, c.load-loaded.ensures)) in
-    let done = load_refused _ _ _ number_is c.if-number-ne0.true in
+    let done = load_refused_lem _ _ _ number_is c.if-number-ne0.true in
     record { result = done.0; room = done.1 }
 
 pub returns-then-room-lt-MODEL : goal.returns-then-room-lt-MODEL

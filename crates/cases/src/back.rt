@@ -56,26 +56,26 @@ fn begins_with(bytes: &[u8], file: &[u8]) -> bool {
 }
 
 // What became of the marks: none changed; or the file stands there, and behind it marks alone.
-fn write_word(bytes: &[u8], file: &[u8]) {
+fn write_word(rt: &impl Print, bytes: &[u8], file: &[u8]) {
     if is_marked(bytes, 0) {
-        text::write(b" kept");
+        text::write(rt, b" kept");
         return;
     }
     if begins_with(bytes, file) {
         if is_marked(bytes, file.len()) {
-            text::write(b" same");
+            text::write(rt, b" same");
             return;
         }
     }
-    text::write(b" WRONG");
+    text::write(rt, b" WRONG");
 }
 
 // A group of a line: the refusal, the length, and what became of the marks.
-pub(crate) fn write_group(written: Written, bytes: &[u8], file: &[u8]) {
-    text::write(b" |");
-    text::write_number(refusal_of(written));
-    text::write_number(length_of(written) as u64);
-    write_word(bytes, file);
+pub(crate) fn write_group(rt: &impl Print, written: Written, bytes: &[u8], file: &[u8]) {
+    text::write(rt, b" |");
+    text::write_number(rt, refusal_of(written));
+    text::write_number(rt, length_of(written) as u64);
+    write_word(rt, bytes, file);
 }
 
 // What writing the model into the first `end` bytes comes to.
@@ -87,25 +87,25 @@ fn written_in(m: Model, bytes: &mut [u8], end: usize) -> Written
 }
 
 // The model is written into the first `lent` bytes of a marked array.
-pub(crate) fn write_into(m: Model, file: &[u8], lent: usize)
+pub(crate) fn write_into(rt: &impl Print, m: Model, file: &[u8], lent: usize)
     requires { lent ≤ 23140 }
 {
     let mut bytes = [MARK; MARKED];
     let written = written_in(m, &mut bytes, lent);
-    write_group(written, &bytes, file);
+    write_group(rt, written, &bytes, file);
 }
 
 // The model of a file into nothing, into one byte less than the file has, into as many, and into
 // 100 more.
-pub(crate) fn write_four(m: Model, file: &[u8])
+pub(crate) fn write_four(rt: &impl Print, m: Model, file: &[u8])
     requires { length file.now ≤ 23040 }
 {
     let n = file.len();
     if n == 0 {
         return;
     }
-    write_into(m, file, 0);
-    write_into(m, file, n - 1);
-    write_into(m, file, n);
-    write_into(m, file, n + 100);
+    write_into(rt, m, file, 0);
+    write_into(rt, m, file, n - 1);
+    write_into(rt, m, file, n);
+    write_into(rt, m, file, n + 100);
 }

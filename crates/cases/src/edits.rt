@@ -4,13 +4,14 @@ ghost use Rattle.std.specs.Prelude.{◌<◌};
 
 use super::{back, stored, text};
 use model::{Loaded, Model};
+use std::rt::Files;
 
 // The place of subject 1's state 0.
 const PLACE: usize = model::MOST_STATES;
 
-fn model_p() -> Model {
+fn model_p(rt: &impl Files) -> Model {
     let mut room = [0u8; stored::ROOM];
-    let n = stored::read(b"printing-p", &mut room);
+    let n = stored::read(rt, b"printing-p", &mut room);
     let loaded = model::load(&room[..n]);
     loaded.model
 }
@@ -81,52 +82,52 @@ fn loaded_from(bytes: &[u8], length: usize) -> Loaded {
 }
 
 // The edited model is written, compared with the stored file of that name, and loaded again.
-fn written_and_loaded(m: Model, name: &[u8]) -> Model {
+fn written_and_loaded(rt: &(impl Files + Print), m: Model, name: &[u8]) -> Model {
     let mut room = [0u8; stored::ROOM];
-    let n = stored::read(name, &mut room);
+    let n = stored::read(rt, name, &mut room);
     let mut bytes = [back::MARK; back::MARKED];
     let written = model::write(m, &mut bytes);
-    back::write_group(written, &bytes, &room[..n]);
+    back::write_group(rt, written, &bytes, &room[..n]);
     let again = loaded_from(&bytes, back::length_of(written));
-    text::write(b" | loads");
+    text::write(rt, b" | loads");
     let verdict = again.verdict;
-    text::write_verdict(verdict);
+    text::write_verdict(rt, verdict);
     again.model
 }
 
-fn edit_limit(p: Model) {
-    text::write(b"edit limit-3");
-    let again = written_and_loaded(with_limit(p, 3), b"edited-limit");
-    text::write_number(limit_in(again));
-    text::write(b"\n");
+fn edit_limit(rt: &(impl Files + Print), p: Model) {
+    text::write(rt, b"edit limit-3");
+    let again = written_and_loaded(rt, with_limit(p, 3), b"edited-limit");
+    text::write_number(rt, limit_in(again));
+    text::write(rt, b"\n");
 }
 
-fn edit_target(p: Model) {
-    text::write(b"edit target-2");
-    let again = written_and_loaded(with_target(p, 0, 2), b"edited-target");
-    text::write_number(target_in(again));
-    text::write(b"\n");
+fn edit_target(rt: &(impl Files + Print), p: Model) {
+    text::write(rt, b"edit target-2");
+    let again = written_and_loaded(rt, with_target(p, 0, 2), b"edited-target");
+    text::write_number(rt, target_in(again));
+    text::write(rt, b"\n");
 }
 
 // ---- Edits that do not
 
 // The model is written into a buffer that is long enough, and into one of length 0.
-fn edit_refused(name: &[u8], m: Model) {
-    text::write(b"edit ");
-    text::write(name);
-    back::write_into(m, b"", back::MARKED);
-    back::write_into(m, b"", 0);
-    text::write(b"\n");
+fn edit_refused(rt: &impl Print, name: &[u8], m: Model) {
+    text::write(rt, b"edit ");
+    text::write(rt, name);
+    back::write_into(rt, m, b"", back::MARKED);
+    back::write_into(rt, m, b"", 0);
+    text::write(rt, b"\n");
 }
 
-pub(crate) fn run() {
-    let p = model_p();
-    edit_limit(p);
-    edit_target(p);
-    edit_refused(b"limit-17", with_limit(p, 17));
-    edit_refused(b"target-9", with_target(p, 0, 9));
-    edit_refused(b"kind-0", with_kind(p, 0));
-    edit_refused(b"subjects-3", with_subjects(p, 3));
-    edit_refused(b"target-behind-last", with_target(p, 3, 1));
-    edit_refused(b"first-3", with_first(p, 3));
+pub(crate) fn run(rt: &(impl Files + Print)) {
+    let p = model_p(rt);
+    edit_limit(rt, p);
+    edit_target(rt, p);
+    edit_refused(rt, b"limit-17", with_limit(p, 17));
+    edit_refused(rt, b"target-9", with_target(p, 0, 9));
+    edit_refused(rt, b"kind-0", with_kind(p, 0));
+    edit_refused(rt, b"subjects-3", with_subjects(p, 3));
+    edit_refused(rt, b"target-behind-last", with_target(p, 3, 1));
+    edit_refused(rt, b"first-3", with_first(p, 3));
 }

@@ -11,19 +11,22 @@ mod edits;
 mod stored;
 mod text;
 
+use std::fs::File;
+use std::rt::Files;
+
 // A file's line: the file is loaded and, where it loads, written back.
-fn run(name: &[u8]) {
+fn run(rt: &(impl Files + Print), name: &[u8]) {
     let mut room = [0u8; stored::ROOM];
-    let n = stored::read(name, &mut room);
+    let n = stored::read(rt, name, &mut room);
     let loaded = model::load(&room[..n]);
     let verdict = loaded.verdict;
-    text::write(name);
-    text::write_verdict(verdict);
+    text::write(rt, name);
+    text::write_verdict(rt, verdict);
     if model::refusal(verdict) == 0 {
         let m = loaded.model;
-        back::write_four(m, &room[..n]);
+        back::write_four(rt, m, &room[..n]);
     }
-    text::write(b"\n");
+    text::write(rt, b"\n");
 }
 
 // Where the line that begins at `from` ends: at its line end, or with the list.
@@ -42,24 +45,24 @@ fn line_end(list: &[u8], from: usize) -> usize
     i
 }
 
-fn run_each(list: &[u8]) {
+fn run_each(rt: &(impl Files + Print), list: &[u8]) {
     let mut start = 0;
     while start < list.len() {
         let end = line_end(list, start);
-        run(&list[start..end]);
+        run(rt, &list[start..end]);
         start = end + 1;
     }
 }
 
-fn main() {
-    let mut list = io::large_buffer();
-    let fd = os::open_read(b"list");
-    if fd < 0 {
-        os::fail(b"list");
-        return;
-    }
-    let n = io::read_full(fd, &mut list);
-    libc::close(fd);
-    run_each(&list[..n]);
-    edits::run();
+fn main(rt: HostRuntime) {
+    let mut list = [0u8; 65536];
+    let n = match File::open(&rt, "list") {
+        Ok(file) => stored::read_full(file, &mut list),
+        Err(e) => {
+            let _ = eprintln!(rt; "list: {e}");
+            return;
+        }
+    };
+    run_each(&rt, &list[..n]);
+    edits::run(&rt);
 }

@@ -14,8 +14,10 @@ mod printed;
 mod text;
 
 use engine::Config;
-use libc::{STDIN_FILENO, STDOUT_FILENO};
 use model::{Loaded, Model, Verdict};
+use std::fs::File;
+use std::io::{Read, Stdin};
+use std::rt::Files;
 
 // Commands served at a time.
 const COMMANDS: usize = 1024;
@@ -49,42 +51,58 @@ pub struct Serving {
     pub length: usize,
 }
 
+// Reads until the room is full, the file ends or a read fails, and answers how many bytes are now at the front of the room.
+fn read_full<F: Read + Drop>(mut file: F, room: &mut [u8]) -> usize
+    ensures { result ≤ length room.new }
+{
+    let mut done = 0;
+    while done < room.len() {
+        let got = file.read(&mut room[done..]).unwrap_or(0);
+        if got == 0 {
+            break;
+        }
+        done += got;
+    }
+    done
+}
+
 // The model in `model.bin`. What cannot be opened or read has length 0.
-fn load_model() -> Loaded
+fn load_model(rt: &impl Files) -> Loaded
     ensures { (result.verdict ≡ Good) → (valid result.model ≡ true) }
 {
     let mut room = [0u8; FILE];
-    let fd = os::open_read(b"model.bin");
-    let n = io::read_full(fd, &mut room);
-    libc::close(fd);
+    let n = match File::open(rt, "model.bin") {
+        Ok(file) => read_full(file, &mut room),
+        Err(_) => 0,
+    };
     model::load(&room[..n])
 }
 
 // Prints why a file is refused, and the block.
-fn print_refusal(verdict: Verdict) {
+fn print_refusal(rt: &impl Print, verdict: Verdict) {
     let mut out = [0u8; 64];
     let a = text::put(&mut out, 0, model::refusal(verdict) as u64, b' ');
     let b = text::put(&mut out, a, model::place(verdict) as u64, b'\n');
-    io::write_all(STDOUT_FILENO, b"model ");
-    io::write_all(STDOUT_FILENO, &out[..b]);
+    let _ = rt.write_all(b"model ");
+    let _ = rt.write_all(&out[..b]);
 }
 
-// Reads once behind the bytes held over, and answers how many came: 0 at the end of the input.
-fn read_some(room: &mut [u8], held: usize) -> usize
+// Reads once behind the bytes held over, and answers how many came: 0 at the end of the input, and where it cannot be read.
+fn read_some(input: &mut Stdin, room: &mut [u8], held: usize) -> usize
     requires { held ≤ length room.old }
     ensures count { held + result ≤ length room.old }
     ensures held { take held room.new ≡ take held room.old }
 {
     let part = &mut room[held..];
-    let got = libc::read(STDIN_FILENO, part);
-    io::count(got, part)
+    input.read(part).unwrap_or(0)
 }
 
 // Serves the input to its end. A proved loop has to end, and nothing says that the input does, so the turns are counted
 // down from a number that no run uses up.
-fn serve_all(m: Model)
+fn serve_all(rt: &HostRuntime, m: Model)
     requires { valid m ≡ true }
 {
+    let mut input = rt.stdin();
     let mut room = [0u8; INPUT];
     let mut numbers = [0u32; NUMBERS];
     let mut out = [0u8; OUTPUT];
@@ -98,31 +116,31 @@ fn serve_all(m: Model)
     };
     let mut turns: u64 = 1125899906842624;
     while turns > 0 {
-        let got = read_some(&mut room, at.held);
+        let got = read_some(&mut input, &mut room, at.held);
         if got == 0 {
             break;
         }
         at = pieces::piece(m, at, &mut room, got, &mut numbers, &mut out);
         let length = at.length;
-        if !io::write_all(STDOUT_FILENO, &out[..length]) {
+        if rt.write_all(&out[..length]).is_err() {
             return;
         }
         turns -= 1;
     }
     let length = pieces::ending(at.held, &mut out);
-    io::write_all(STDOUT_FILENO, &out[..length]);
+    let _ = rt.write_all(&out[..length]);
 }
 
-fn main() {
-    let loaded = load_model();
+fn main(rt: HostRuntime) {
+    let loaded = load_model(&rt);
     let verdict = loaded.verdict;
     let m = loaded.model;
     match verdict {
         Verdict::Good => {
-            if io::write_all(STDOUT_FILENO, b"n c s r state word pool\n") {
-                serve_all(m);
+            if rt.write_all(b"n c s r state word pool\n").is_ok() {
+                serve_all(&rt, m);
             }
         }
-        _ => print_refusal(verdict),
+        _ => print_refusal(&rt, verdict),
     }
 }

@@ -16,8 +16,10 @@
 ghost use Rattle.std.specs.Prelude.{◌+◌, ◌*◌, ◌/◌, ◌≤◌, length};
 
 use engine::{Answer, Command, Config, Pool, Stepped, Subject};
-use libc::STDOUT_FILENO;
 use model::Model;
+use std::fs::File;
+use std::io::Read;
+use std::rt::Files;
 
 // A model file has at most 43 blocks of 512 bytes.
 const FILE: usize = 43 * 512;
@@ -32,9 +34,13 @@ const BEFORE_ANSWERS: usize = 255 * 4;
 
 // ---- Writing
 
-fn number(x: u64) {
-    io::write_all(STDOUT_FILENO, b" ");
-    io::print_decimal(STDOUT_FILENO, x);
+// A write that fails is passed over.
+fn write(rt: &impl Print, text: &[u8]) {
+    let _ = rt.write_all(text);
+}
+
+fn number(rt: &impl Print, x: u64) {
+    let _ = print!(rt; " {x}");
 }
 
 fn wide(x: u32) -> u64 {
@@ -42,19 +48,19 @@ fn wide(x: u32) -> u64 {
 }
 
 // State, word and number of entries; three 0 if there is no such subject.
-fn write_shown(there: bool, subject: Subject) {
+fn write_shown(rt: &impl Print, there: bool, subject: Subject) {
     if there {
-        number(subject.state as u64);
-        number(subject.word as u64);
+        number(rt, subject.state as u64);
+        number(rt, subject.word as u64);
         let pool = subject.pool;
-        number(pool.count as u64);
+        number(rt, pool.count as u64);
     } else {
-        io::write_all(STDOUT_FILENO, b" 0 0 0");
+        write(rt, b" 0 0 0");
     }
 }
 
 // Placed, improper, closed, full and missing: all 0 unless Reserve was accepted.
-fn write_answer(answer: Answer) {
+fn write_answer(rt: &impl Print, answer: Answer) {
     match answer {
         Answer::Reserved {
             placed,
@@ -63,55 +69,55 @@ fn write_answer(answer: Answer) {
             full,
             missing,
         } => {
-            number(placed as u64);
-            number(improper as u64);
-            number(closed as u64);
-            number(full as u64);
-            number(missing as u64);
+            number(rt, placed as u64);
+            number(rt, improper as u64);
+            number(rt, closed as u64);
+            number(rt, full as u64);
+            number(rt, missing as u64);
         }
         Answer::Done => {
-            io::write_all(STDOUT_FILENO, b" 0 0 0 0 0");
+            write(rt, b" 0 0 0 0 0");
         }
         Answer::Refused(_) => {
-            io::write_all(STDOUT_FILENO, b" 0 0 0 0 0");
+            write(rt, b" 0 0 0 0 0");
         }
     }
 }
 
-fn write_entry(pool: Pool, at: usize)
+fn write_entry(rt: &impl Print, pool: Pool, at: usize)
     requires { at + 1 ≤ 16 }
 {
     let entries = pool.entries;
     let entry = entries[at];
-    number(entry.sender as u64);
-    number(entry.typ as u64);
+    number(rt, entry.sender as u64);
+    number(rt, entry.typ as u64);
     if entry.message {
-        number(1);
+        number(rt, 1);
     } else {
-        number(0);
+        number(rt, 0);
     }
-    number(entry.content as u64);
+    number(rt, entry.content as u64);
 }
 
-fn write_pool(pool: Pool) {
+fn write_pool(rt: &impl Print, pool: Pool) {
     let count = pool.count as usize;
     let mut i = 0;
     while i < 16 {
         if i == count {
             break;
         }
-        write_entry(pool, i);
+        write_entry(rt, pool, i);
         i += 1;
     }
 }
 
-fn write_waiting(there: bool, subject: Subject) {
+fn write_waiting(rt: &impl Print, there: bool, subject: Subject) {
     if there {
-        number(subject.mode as u64);
-        number(subject.waited as u64);
-        number(subject.mask as u64);
+        number(rt, subject.mode as u64);
+        number(rt, subject.waited as u64);
+        number(rt, subject.mask as u64);
         let pool = subject.pool;
-        write_pool(pool);
+        write_pool(rt, pool);
     }
 }
 
@@ -128,27 +134,27 @@ fn subject_at(c: Config, s: u8) -> Subject {
 }
 
 // The line of command number `count`, with what came back under model m.
-fn write_line(m: Model, count: u64, b: [u8; 8], stepped: Stepped) {
+fn write_line(rt: &impl Print, m: Model, count: u64, b: [u8; 8], stepped: Stepped) {
     let s = shown(b);
     let there = s < m.n;
     let config = stepped.config;
     let answer = stepped.answer;
     let subject = subject_at(config, s);
-    io::print_decimal(STDOUT_FILENO, count);
-    number(b[0] as u64);
-    number(s as u64);
-    number(engine::refusal(answer) as u64);
-    write_shown(there, subject);
-    write_answer(answer);
-    write_waiting(there, subject);
-    io::write_all(STDOUT_FILENO, b"\n");
+    let _ = print!(rt; "{count}");
+    number(rt, b[0] as u64);
+    number(rt, s as u64);
+    number(rt, engine::refusal(answer) as u64);
+    write_shown(rt, there, subject);
+    write_answer(rt, answer);
+    write_waiting(rt, there, subject);
+    write(rt, b"\n");
 }
 
-fn write_valid(valid: bool) {
+fn write_valid(rt: &impl Print, valid: bool) {
     if valid {
-        io::write_all(STDOUT_FILENO, b"valid 1\n");
+        write(rt, b"valid 1\n");
     } else {
-        io::write_all(STDOUT_FILENO, b"valid 0\n");
+        write(rt, b"valid 0\n");
     }
 }
 
@@ -247,32 +253,32 @@ fn given(m: Model, c: Config, b: [u8; 8]) -> Stepped {
 }
 
 // Gives a command where its subject has ended improperly: its line, and whether such a configuration is valid.
-fn give_improper(m: Model, c: Config, count: u64, b: [u8; 8]) {
+fn give_improper(rt: &impl Print, m: Model, c: Config, count: u64, b: [u8; 8]) {
     let ended = ended_improperly(c, shown(b));
     let stepped = engine::step(m, ended, command_of(b));
-    write_line(m, count, b, stepped);
-    write_valid(engine::is_valid(m, ended));
+    write_line(rt, m, count, b, stepped);
+    write_valid(rt, engine::is_valid(m, ended));
 }
 
 // Gives a command and writes its line. The configuration from which the run goes on.
-fn give(m: Model, c: Config, count: u64, b: [u8; 8]) -> Config {
+fn give(rt: &impl Print, m: Model, c: Config, count: u64, b: [u8; 8]) -> Config {
     if b[3] == 2 {
         let none = without_subjects(m);
         let stepped = engine::step_coded(none, c, b);
-        write_line(none, count, b, stepped);
+        write_line(rt, none, count, b, stepped);
         return c;
     }
     if b[3] == 3 {
         let stepped = engine::step_coded(m, spoilt(c), b);
-        write_line(m, count, b, stepped);
+        write_line(rt, m, count, b, stepped);
         return c;
     }
     if b[3] == 5 {
-        give_improper(m, c, count, b);
+        give_improper(rt, m, c, count, b);
         return c;
     }
     let stepped = given(m, c, b);
-    write_line(m, count, b, stepped);
+    write_line(rt, m, count, b, stepped);
     stepped.config
 }
 
@@ -293,25 +299,25 @@ fn command_at(tape: &[u8], at: usize) -> [u8; 8]
     ]
 }
 
-fn give_each(m: Model, fresh: Config, tape: &[u8]) {
+fn give_each(rt: &impl Print, m: Model, fresh: Config, tape: &[u8]) {
     let mut c = fresh;
     let mut count = 1;
     let mut at = 0;
     while 8 <= tape.len() - at {
         let b = command_at(tape, at);
-        c = give(m, c, count, b);
-        count = std::num::wrapping_add_u64(count, 1);
+        c = give(rt, m, c, count, b);
+        count = count.wrapping_add(1);
         at += 8;
     }
 }
 
-fn write_numbers(numbers: &[u32], count: usize) {
+fn write_numbers(rt: &impl Print, numbers: &[u32], count: usize) {
     let mut i = 0;
     while i < numbers.len() {
         if i == count {
             break;
         }
-        number(wide(numbers[i]));
+        number(rt, wide(numbers[i]));
         i += 1;
     }
 }
@@ -363,7 +369,7 @@ fn refusal_of(m: Model, c: Config, tape: &[u8], numbers: &mut [u32], end: usize)
 }
 
 // The whole tape once more, in one call: its refusal; then refusal, state, word and entries for each command.
-fn run_whole(m: Model, fresh: Config, tape: &[u8])
+fn run_whole(rt: &impl Print, m: Model, fresh: Config, tape: &[u8])
     requires { length tape.now ≤ 4096 }
 {
     let mut numbers = [7u32; ANSWERS];
@@ -376,33 +382,57 @@ fn run_whole(m: Model, fresh: Config, tape: &[u8])
         &mut numbers,
         end,
     );
-    io::write_all(STDOUT_FILENO, b"tape");
-    number(refusal as u64);
-    write_numbers(&numbers, tape.len() / 8 * 4);
-    io::write_all(STDOUT_FILENO, b"\n");
+    write(rt, b"tape");
+    number(rt, refusal as u64);
+    write_numbers(rt, &numbers, tape.len() / 8 * 4);
+    write(rt, b"\n");
 }
 
-fn model_of(file: &[u8]) -> Model {
+// Reads until the room is full, the file ends or a read fails: how many bytes are now at the start of the room.
+fn read_full<F: Read + Drop>(mut file: F, room: &mut [u8]) -> usize
+    ensures { result ≤ length room.new }
+{
+    let mut done = 0;
+    while done < room.len() {
+        let got = file.read(&mut room[done..]).unwrap_or(0);
+        if got == 0 {
+            break;
+        }
+        done += got;
+    }
+    done
+}
+
+// The file goes to the start of the room: its length. A missing one, or one whose name is no text, has length 0.
+fn read(rt: &impl Files, name: &[u8], room: &mut [u8]) -> usize
+    ensures { result ≤ length room.new }
+{
+    let Ok(name) = str::from_utf8(name) else {
+        return 0;
+    };
+    match File::open(rt, name) {
+        Ok(file) => read_full(file, room),
+        Err(_) => 0,
+    }
+}
+
+fn model_of(rt: &impl Files, file: &[u8]) -> Model {
     let mut room = [0u8; FILE];
-    let fd = os::open_read(file);
-    let n = io::read_full(fd, &mut room);
-    libc::close(fd);
+    let n = read(rt, file, &mut room);
     let loaded = model::load(&room[..n]);
     loaded.model
 }
 
-fn run(file: &[u8], name: &[u8]) {
-    let m = model_of(file);
+fn run(rt: &(impl Files + Print), file: &[u8], name: &[u8]) {
+    let m = model_of(rt, file);
     let started = engine::fresh(m);
     let fresh = started.config;
     let mut room = [0u8; TAPE];
-    let fd = os::open_read(name);
-    let n = io::read_full(fd, &mut room);
-    libc::close(fd);
-    io::write_all(STDOUT_FILENO, name);
-    io::write_all(STDOUT_FILENO, b"\n");
-    give_each(m, fresh, &room[..n]);
-    run_whole(m, fresh, &room[..n]);
+    let n = read(rt, name, &mut room);
+    write(rt, name);
+    write(rt, b"\n");
+    give_each(rt, m, fresh, &room[..n]);
+    run_whole(rt, m, fresh, &room[..n]);
 }
 
 // ---- The list
@@ -424,7 +454,7 @@ fn line_end(list: &[u8], from: usize) -> usize
 }
 
 // A model's name that no line follows is passed over.
-fn run_each(list: &[u8]) {
+fn run_each(rt: &(impl Files + Print), list: &[u8]) {
     let mut start = 0;
     while start < list.len() {
         let end = line_end(list, start);
@@ -433,19 +463,19 @@ fn run_each(list: &[u8]) {
         }
         let next = end + 1;
         let last = line_end(list, next);
-        run(&list[start..end], &list[next..last]);
+        run(rt, &list[start..end], &list[next..last]);
         start = last + 1;
     }
 }
 
-fn main() {
-    let mut list = io::large_buffer();
-    let fd = os::open_read(b"list");
-    if fd < 0 {
-        os::fail(b"list");
-        return;
-    }
-    let n = io::read_full(fd, &mut list);
-    libc::close(fd);
-    run_each(&list[..n]);
+fn main(rt: HostRuntime) {
+    let mut list = [0u8; 65536];
+    let n = match File::open(&rt, "list") {
+        Ok(file) => read_full(file, &mut list),
+        Err(e) => {
+            let _ = eprintln!(rt; "list: {e}");
+            return;
+        }
+    };
+    run_each(&rt, &list[..n]);
 }

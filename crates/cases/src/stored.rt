@@ -1,5 +1,5 @@
 // The stored files.
-ghost use Rattle.std.specs.Prelude.{◌≤◌, length};
+ghost use Rattle.std.specs.Prelude.{◌≡◌, ◌≤◌, length, take};
 
 use std::fs::File;
 use std::io::Read;
@@ -27,7 +27,8 @@ pub(crate) fn read_full<F: Read + Drop>(mut file: F, room: &mut [u8]) -> usize
 // The file goes to the start of the room: its length. A missing one, or one whose name is no text,
 // has length 0.
 pub(crate) fn read(rt: &impl Files, name: &[u8], room: &mut [u8]) -> usize
-    ensures { result ≤ length room.new }
+    ensures fits { result ≤ length room.new }
+    ensures front { result ≡ length (take result room.new) }
 {
     let Ok(name) = str::from_utf8(name) else {
         return 0;

@@ -197,6 +197,13 @@ module _ (file config : List ℕ) (r : ℕ) (verdict : r ≡ verdicts.refusal_of
       let e = fine h ∙ number_after _ 6 [] (le-ltb _ _ l) ∙ number_none in
       (sym e, buffer_onto _ config (config_bytes (fresh_of (model_in file)).config) now e (omega (arith, length_config (fresh_of (model_in file)).config)) (stored_same config now _ _ 0 p (ap (λ (x : Stepped). config_bytes x.config) k)))
 
+-- a file that loads, and a buffer that is too short: 6, and the buffer stays
+pub short_number : (file config : List ℕ) → verdicts.refusal_of (loaded file).verdict ≡ 0 → length config < config_size → 6 ≡ first_number (fresh_refusals file config)
+short_number file config h l = (fresh_short file config _ refl h l).0
+
+pub short_stays : (file config : List ℕ) → verdicts.refusal_of (loaded file).verdict ≡ 0 → length config < config_size → config ≡ fresh_room file config
+short_stays file config h l = (fresh_short file config _ refl h l).1
+
 -- ---- 8, 9 and 10
 
 -- what the code's first test says, in the words of the definition

@@ -56,6 +56,7 @@ pub extern "C" fn zs_write(model: &[u8], room: &mut [u8]) -> u32
 }
 
 // The fresh start: the refusal. The configuration goes to the buffer.
+#[tactic(auto, using(crate::proofs::CallLaws::short_number, crate::proofs::CallLaws::short_stays))]
 #[unsafe(no_mangle)]
 pub extern "C" fn zs_fresh(file: &[u8], config: &mut [u8]) -> u8
     ensures result { result ≡ first_number (fresh_refusals file.now config.old) }

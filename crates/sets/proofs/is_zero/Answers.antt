@@ -1,4 +1,6 @@
-use mathlib.Core.Path.{sym}
+use mathlib.Core.Path.{◌≡◌, sym}
+use native.Mathlib.Omega.{arith}
+use lib.ListN.{get_or}
 use borrow.Author.Tests.{eq-eqb, ne_eqb}
 use borrow.Author.Rules.{rules}
 use Rattle.sets.specs.Tests.{all_zero}
@@ -13,7 +15,9 @@ unfolding all_zero
 returns-then-s-i-ne0 c = sym (all_stop _ _ _ c.loop-i-test.true (ne_eqb _ _ c.if-s-i-ne0.true))
 
 pub loop-i-preserved : goal.loop-i-preserved
-loop-i-preserved c = (search rules, all_more _ _ c.loop-i.invariant.1 (eq-eqb _ _ c.if-s-i-ne0.false))
+loop-i-preserved c =
+    let zero : get_or c.args.s.now c.loop-i.i 0 ≡ 0 = omega arith in
+    (search rules, all_more _ _ c.loop-i.invariant.1 (eq-eqb _ _ zero))
 
 pub returns : goal.returns
 unfolding all_zero

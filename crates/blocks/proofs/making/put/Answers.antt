@@ -1,4 +1,4 @@
-use Rattle.std.proofs.Common.{◌∙◌}
+use Rattle.std.proofs.Common.{◌<◌, ◌∙◌, arith}
 use Rattle.blocks.proofs.MakingLaws.{record_there, no_block, no_place_lem}
 use Rattle.blocks.proofs.making.put.Goals as goal
 
@@ -10,4 +10,5 @@ returns-then-i-ge42 c = no_place_lem _ _ _ _ c.if-buffer-b.false c.if-i-ge42.tru
 
 pub returns : goal.returns
 returns c =
-    c.store_record.ensures ∙ record_there _ _ _ _ c.if-buffer-b.false c.if-i-ge42.false
+    let there : c.args.i < 42 = omega arith in
+    c.store_record.ensures ∙ record_there _ _ _ _ c.if-buffer-b.false there

@@ -1,4 +1,4 @@
-use Rattle.std.proofs.Common.{sym}
+use Rattle.std.proofs.Common.{◌<◌, sym, arith}
 use native.Mathlib.Nat.{add-sub_cancel_left}
 use Rattle.blocks.specs.Blocks.{record_of}
 use Rattle.blocks.proofs.BlockLaws.{record_short, record_here, record_unused, record_past}
@@ -21,4 +21,5 @@ pub returns : goal.returns
 unfolding record_of
 returns c =
     let part = c.block-part.ensures in
-    rw (← part, add-sub_cancel_left) (sym (record_here _ _ c.if-part-i.false c.if-i-ge42.false))
+    let there : c.args.i < 42 = omega arith in
+    rw (← part, add-sub_cancel_left) (sym (record_here _ _ c.if-part-i.false there))

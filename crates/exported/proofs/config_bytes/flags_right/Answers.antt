@@ -1,4 +1,6 @@
 use mathlib.Core.Path.{sym}
+use Prim.Native.Nat.{◌≤◌}
+use native.Mathlib.Omega.{arith}
 use borrow.Author.Rules.{rules}
 use borrow.Author.Tests.{lt-leb, le-leb}
 use Rattle.sets.proofs.Below.{all_start, all_more, all_stop, all_end}
@@ -16,7 +18,8 @@ returns-then-byte-gt1 c =
 pub loop-j-preserved : goal.loop-j-preserved
 loop-j-preserved c =
     let inv = c.loop-j.invariant in
-    (search rules, all_more _ _ inv.1 (le-leb _ _ (rw c.byte.ensures at c.if-byte-gt1.false)))
+    let flag : c.byte.result ≤ 1 = omega arith in
+    (search rules, all_more _ _ inv.1 (le-leb _ _ (rw c.byte.ensures at flag)))
 
 pub returns : goal.returns
 unfolding flags_right

@@ -1,4 +1,5 @@
-use mathlib.Core.Path.{sym, ◌∙◌}
+use mathlib.Core.Path.{◌≡◌, sym, ◌∙◌}
+use native.Mathlib.Omega.{arith}
 use Rattle.model.proofs.WritingLaws.{end_empty, end_open}
 use Rattle.model.proofs.writing.end_kind.Goals as goal
 
@@ -9,5 +10,6 @@ returns-then-i-eq0 c =
 
 pub returns : goal.returns
 returns c =
-    let e = end_open c.args.buffer.now c.args.kind c.args.line c.if-i-eq0.false in
+    let some : c.args.line.used ≡ 0 → ⊥ = λ none. absurd (omega arith) in
+    let e = end_open c.args.buffer.now c.args.kind c.args.line some in
     record { buffer = c.seal.ensures ∙ sym e.1; block = sym e.0 }

@@ -1,5 +1,5 @@
 -- Laws of blocks and records as parts of a file.
-use Rattle.std.proofs.Common.{◌≡◌, ℕ, ◌+◌, ◌*◌, ◌/◌, ◌%◌, ◌<◌, ◌≤◌, Bool, true, false, cond, ◌&&◌, ltb, List, [], length, take, drop, refl, ◌∙◌, arith, length-drop, length-take, ltb-false, ltb-true, le-ltb, lt-ltb}
+use Rattle.std.proofs.Common.{◌≡◌, ℕ, ◌+◌, ◌*◌, ◌/◌, ◌%◌, ◌<◌, ◌≤◌, Bool, true, false, ◌&&◌, ltb, List, [], length, take, drop, refl, ◌∙◌, arith, length-drop, length-take, ltb-false, ltb-true, le-ltb, lt-ltb}
 use Rattle.sets.proofs.Bytes.{Bytes, none, take_bytes, drop_bytes}
 use Rattle.sets.proofs.Tests.{choose}
 use Rattle.blocks.specs.Blocks.{blocks, block_of, used_in, record_in, record_of, record_from}
@@ -17,7 +17,7 @@ pub block_length : (file : List ℕ) (b : ℕ) → b < blocks file → length (b
 block_length file b h =
     rw (block_here file b h) (length-take 512 (drop (b * 512) file) ∙ omega (arith, length-drop (b * 512) file))
 
--- a block of less than 512 bytes has none, and no records
+-- a block of less than 512 bytes has none
 pub block_short : (file : List ℕ) (b : ℕ) → length (block_of file b) < 512 → block_of file b ≡ []
 block_short file b h = go (ltb b (blocks file)) refl
   where
@@ -25,31 +25,15 @@ block_short file b h = go (ltb b (blocks file)) refl
     go true e = absurd (omega (arith, block_length file b (ltb-true _ _ e)))
     go false e = block_gone file b (ltb-false _ _ e)
 
-pub record_short : (file : List ℕ) (b i : ℕ) → length (block_of file b) < 512 → record_of file b i ≡ []
-unfolding record_of record_in
-record_short file b i h = rw (block_short file b h, le-ltb i 0 (omega arith))
-
 pub record_gone : (file : List ℕ) (b i : ℕ) → blocks file ≤ b → record_of file b i ≡ []
 unfolding record_of record_in
 record_gone file b i h = rw (block_gone file b h, le-ltb i 0 (omega arith))
 
--- a record in use, and one that is not
+-- a record in use
 module _ (block : List ℕ) (i : ℕ) where
   pub record_here : i < used_in block → i < 42 → record_in block i ≡ take 12 (drop (4 + i * 12) block)
   unfolding record_in
   record_here h l = rw (lt-ltb _ _ h, lt-ltb _ _ l)
-
-  pub record_unused : used_in block ≤ i → record_in block i ≡ []
-  unfolding record_in
-  record_unused h = rw (le-ltb _ _ h)
-
-  pub record_past : 42 ≤ i → record_in block i ≡ []
-  unfolding record_in
-  record_past h = go (ltb i (used_in block))
-    where
-      go : (t : Bool) → cond (t && ltb i 42) (take 12 (drop (4 + i * 12) block)) [] ≡ []
-      go true = rw (le-ltb i 42 h)
-      go false = refl
 
 -- ---- the parts of a file of bytes are bytes
 

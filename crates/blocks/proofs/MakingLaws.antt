@@ -2,12 +2,25 @@
 use Rattle.std.proofs.Common.{◌≡◌, ℕ, ◌+◌, ◌-◌, ◌*◌, ◌<◌, ◌≤◌, List, [], ◌∷◌, ◌++◌, length, take, drop, replicate, sym, refl, ap, ◌∙◌, arith, length-append, length-drop, length-take-le, le-ltb, lt-ltb, le-leb}
 use borrow.Author.Tests.{lt-leb}
 use lib.ListN.{length-replicate}
+use mathlib.Core.List.{append_assoc}
+use lib.Seq.{sets-eq, drop-drop}
+use borrow.Rule.Slice.PartMut.{put_mid}
 use Rattle.sets.specs.Stores.{joined, stored}
 use Rattle.sets.proofs.Pieces.{Each, length_joined}
 use Rattle.sets.proofs.Stores.{length_stored, behind_stored, read_stored, stored_there, stored_over, stored_more}
 use Rattle.blocks.specs.Blocks.{blocks}
 use Rattle.blocks.specs.Checks.{check_of}
 use Rattle.blocks.specs.Made.{two_bytes, four_bytes, body_of, checked, body_with, block_with, with_record, records_in, sealed}
+
+-- a part of a buffer that has become these bytes
+pub part_stored : (old : List ℕ) (p k : ℕ) (now bytes : List ℕ) → now ≡ bytes → k ≡ length bytes → p + length bytes ≤ length old
+    → put_mid p k old now ≡ stored old p bytes
+unfolding stored
+part_stored old p k now bytes e n h =
+    rw (e, n)
+    (ap (λ (t : List ℕ). take p old ++ (bytes ++ t)) (drop-drop (length bytes) p old)
+    ∙ sym (append_assoc (take p old) bytes (drop (p + length bytes) old))
+    ∙ sym (sets-eq bytes old p h))
 
 -- what a block is closed with has 508 bytes
 length_body : (b kind used : ℕ) (bytes : List ℕ) → used ≤ 42 → length bytes ≡ 12 * used → length (body_of b kind used bytes) ≡ 508
@@ -49,20 +62,12 @@ module _ (b kind used : ℕ) (old : List ℕ) (few : used ≤ 42) (whole : b * 5
       stored_more old two next body (four_bytes (check_of body)) (b * 512) (b * 512 + 508) all
       (g ∙ ap (λ (l : List ℕ). stored two (b * 512 + 508) (four_bytes (check_of l))) read) (ap (λ (k : ℕ). b * 512 + k) (sym size))
 
--- ---- where a record has its place, and where not
+-- ---- where a record has its place
 
 module _ (old : List ℕ) (b i : ℕ) (r : List ℕ) where
   pub record_there : b < blocks old → i < 42 → stored old (b * 512 + (4 + i * 12)) r ≡ with_record old b i r
   unfolding with_record
   record_there l h = rw (lt-ltb b (blocks old) l, lt-ltb i 42 h)
-
-  pub no_block : blocks old ≤ b → old ≡ with_record old b i r
-  unfolding with_record
-  no_block l = rw (le-ltb b (blocks old) l)
-
-  pub no_place_lem : b < blocks old → 42 ≤ i → old ≡ with_record old b i r
-  unfolding with_record
-  no_place_lem l h = rw (lt-ltb b (blocks old) l, le-ltb i 42 h)
 
 -- ---- where a block is closed, and where not
 

@@ -11,13 +11,15 @@ pub use making::{put, seal};
 pub use parts::{block, check_right, count_of, first_block, record, record_from, room_right};
 pub use verdicts::{place, refusal};
 
-// Whether a file is good, and if not, what is wrong and in which block.
+// What is wrong with a file, and in which block.
 #[derive(Clone, Copy)]
-pub enum Verdict {
-    Good,
+pub enum Fault {
     Length,
     Check(usize),
     Block(usize),
     Record(usize),
     Across,
 }
+
+// Whether a file is good, and if not, what is wrong with it.
+pub type Verdict = Result<(), Fault>;

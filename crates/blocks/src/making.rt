@@ -1,34 +1,28 @@
 // Blocks are made in a buffer: records go to their places, and a block is closed.
-ghost use Rattle.std.specs.Prelude.{◌≡◌, ◌+◌, ◌-◌, ◌<◌, ◌≤◌, [], ◌∷◌, ◌++◌, length, take, drop, replicate};
+ghost use Rattle.std.specs.Prelude.{◌≡◌, ◌+◌, ◌≤◌, [], ◌∷◌, ◌++◌, length, take, drop, replicate};
 ghost use Rattle.sets.specs.Stores.{stored};
 ghost use Rattle.blocks.specs.Checks.{check_of};
 ghost use Rattle.blocks.specs.Made.{two_bytes, four_bytes, with_record, sealed};
 
 use super::checks::check;
 
-// Twelve bytes go to the places from p on.
-fn store_record(buffer: &mut [u8], p: usize, r: [u8; 12])
-    requires { p + 12 ≤ length buffer.old }
-    ensures { buffer.new ≡ stored buffer.old p r }
+// The bytes go to the places from p on. exported has the same for itself: a public one would have to take any place.
+fn store(buffer: &mut [u8], p: usize, bytes: &[u8])
+    requires { p + length bytes.now ≤ length buffer.old }
+    ensures { buffer.new ≡ stored buffer.old p bytes.now }
 {
-    let mut i: usize = 0;
-    while i < 12 {
-        buffer[p + i] = r[i];
-        i += 1;
-    }
+    buffer[p..p + bytes.len()].copy_from_slice(bytes);
 }
 
 // Record i of block b: its twelve bytes go to their place. Nothing changes where the block is not whole or i is not below 42.
+#[tactic(auto, unfolding(crate::specs::Made::with_record))]
 pub fn put(buffer: &mut [u8], b: usize, i: usize, r: [u8; 12])
     ensures { buffer.new ≡ with_record buffer.old b i r }
 {
-    if buffer.len() / 512 <= b {
+    if buffer.len() / 512 <= b || 42 <= i {
         return;
     }
-    if 42 <= i {
-        return;
-    }
-    store_record(buffer, b * 512 + (4 + i * 12), r);
+    store(buffer, b * 512 + (4 + i * 12), &r);
 }
 
 // Number, kind and record count of a block go to the places from p on.
@@ -36,10 +30,8 @@ fn store_head(buffer: &mut [u8], p: usize, b: u16, kind: u8, used: u8)
     requires { p + 4 ≤ length buffer.old }
     ensures { buffer.new ≡ stored buffer.old p (two_bytes b ++ kind ∷ used ∷ []) }
 {
-    buffer[p] = (b % 256) as u8;
-    buffer[p + 1] = (b / 256) as u8;
-    buffer[p + 2] = kind;
-    buffer[p + 3] = used;
+    let [low, high] = b.to_le_bytes();
+    store(buffer, p, &[low, high, kind, used]);
 }
 
 // Zeros go to so many places from p on.
@@ -47,11 +39,7 @@ fn clear(buffer: &mut [u8], p: usize, count: usize)
     requires { p + count ≤ length buffer.old }
     ensures { buffer.new ≡ stored buffer.old p (replicate count 0) }
 {
-    let mut i: usize = 0;
-    while i < count {
-        buffer[p + i] = 0;
-        i += 1;
-    }
+    buffer[p..p + count].fill(0);
 }
 
 // The check of the 508 bytes from p on goes behind them.
@@ -60,11 +48,7 @@ fn store_check(buffer: &mut [u8], p: usize)
     ensures { buffer.new ≡ stored buffer.old (p + 508) (four_bytes (check_of (take 508 (drop p buffer.old)))) }
 {
     let c = check(&buffer[p..p + 508]);
-    let at = p + 508;
-    buffer[at] = (c % 256) as u8;
-    buffer[at + 1] = (c / 256 % 256) as u8;
-    buffer[at + 2] = (c / 65536 % 256) as u8;
-    buffer[at + 3] = (c / 16777216) as u8;
+    store(buffer, p + 508, &c.to_le_bytes());
 }
 
 // Block b is closed with the records that stand there: number, kind, count, unused room and check. Nothing changes where the
@@ -72,13 +56,7 @@ fn store_check(buffer: &mut [u8], p: usize)
 pub fn seal(buffer: &mut [u8], b: usize, kind: u8, used: u8)
     ensures { buffer.new ≡ sealed buffer.old b kind used }
 {
-    if buffer.len() / 512 <= b {
-        return;
-    }
-    if 65536 <= b {
-        return;
-    }
-    if 42 < used {
+    if buffer.len() / 512 <= b || 65536 <= b || 42 < used {
         return;
     }
     let p = b * 512;

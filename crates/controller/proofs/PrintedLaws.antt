@@ -21,7 +21,8 @@ use Rattle.controller.specs.Text.{row_text, pasted}
 use Rattle.controller.specs.Printed.{line_text, lines_text, printed, rows_text, served_of}
 use Rattle.controller.specs.declared.Served.{Served}
 use Rattle.controller.proofs.RunLaws.{ran_done, written_at}
-use Rattle.controller.proofs.TextLaws.{length_row, pasted_none, pasted_more, length_pasted}
+use Rattle.std.proofs.Common.{subst}
+use Rattle.controller.proofs.TextLaws.{length_row, TextPut, put_nothing, put_length, put_more}
 
 -- ---- the lines of a buffer
 
@@ -58,19 +59,18 @@ module _ (tape numbers : List ℕ) (first : ℕ) where
 
   module _ (old : List ℕ) where
     -- the lines of i commands are put
-    pub record LinesPut (i p : ℕ) (now : List ℕ) : Type 0 where
-      pub place : p ≡ length (rows_text tape numbers first i)
-      pub text : now ≡ pasted old 0 (rows_text tape numbers first i)
+    abbrev pub LinesPut : ℕ → ℕ → List ℕ → Type 0
+    LinesPut i p now = TextPut old 0 (rows_text tape numbers first i) p now
 
     pub lines_start : LinesPut 0 0 old
     unfolding rows_text
-    lines_start = record { place = refl; text = sym (pasted_none old 0) }
+    lines_start = put_nothing old 0
 
     module _ (i p : ℕ) (now : List ℕ) (w : LinesPut i p now) (room : 147 * i ≤ length old) where
       pub lines_length : length now ≡ length old
-      lines_length = ap length w.text ∙ length_pasted old 0 (rows_text tape numbers first i) (omega (arith, length_rows i))
+      lines_length = put_length old 0 (rows_text tape numbers first i) p now w (omega (arith, length_rows i))
 
-      lines_few : p ≤ 147 * i
+      pub lines_few : p ≤ 147 * i
       lines_few = omega (arith, w.place, length_rows i)
 
       -- room for one more
@@ -81,32 +81,9 @@ module _ (tape numbers : List ℕ) (first : ℕ) where
           → q ≡ p + length (row_text (row_at numbers first (get_or tape (8 * i) 0) shown i)) → next ≡ pasted now p (row_text (row_at numbers first (get_or tape (8 * i) 0) shown i))
           → LinesPut (i + 1) q next
       lines_turn shown q next e h t =
-          let done = rows_text tape numbers first i in
           let row = row_text (row_at numbers first (get_or tape (8 * i) 0) shown i) in
-          let more = rows_more i shown e in
-          let at : p ≡ 0 + length done = w.place ∙ omega arith in
-          record {
-            place = rw more (omega (arith, length-append done row, w.place));
-            text =
-                t
-                ∙ (rw (w.text, at))
-                ∙ pasted_more old 0 done (omega (arith, length_rows i)) row
-                ∙ ap (pasted old 0) (sym more);
-          }
-
-      -- the last line is put
-      module _ (n : ℕ) (low : i ≤ n) (high : n ≤ i) where
-        lines_all : i ≡ n
-        lines_all = omega arith
-
-        pub lines_fit : p ≤ 147 * n
-        lines_fit = omega (arith, lines_few)
-
-        pub lines_place : p ≡ length (rows_text tape numbers first n)
-        lines_place = w.place ∙ ap (λ (k : ℕ). length (rows_text tape numbers first k)) lines_all
-
-        pub lines_text_lem : now ≡ pasted old 0 (rows_text tape numbers first n)
-        lines_text_lem = w.text ∙ ap (λ (k : ℕ). pasted old 0 (rows_text tape numbers first k)) lines_all
+          subst (λ (l : List ℕ). TextPut old 0 l q next) (sym (rows_more i shown e))
+          (put_more old 0 (rows_text tape numbers first i) p now w (omega (arith, length_rows i)) row q next h t)
 
 -- ---- the numbers that the engine wrote
 

@@ -1,7 +1,7 @@
 -- Laws of numbers as text, and of text in a buffer.
-use mathlib.Core.Path.{◌≡◌, refl, sym, ap, ◌∙◌}
+use mathlib.Core.Path.{◌≡◌, refl, sym, ap, ap₂, ◌∙◌}
 use mathlib.Core.Bool.{Bool, true, false, cond}
-use mathlib.Core.List.{List, [], ◌∷◌, ◌++◌, append_assoc}
+use mathlib.Core.List.{List, [], ◌∷◌, ◌++◌, append_assoc, append-nil}
 use Prim.Native.Nat.{ℕ, zero, suc, ◌+◌, ◌*◌, ◌-◌, ◌/◌, ◌%◌, ◌^◌, ◌≤◌, ◌<◌}
 use native.Mathlib.Nat.{not-suc-le-zero, le_of_suc-le-suc, add-zero, pow-suc, one-le-pow, pow-le-pow_right}
 use native.Mathlib.Numerals.{add-one}
@@ -9,7 +9,9 @@ use native.Mathlib.Omega.{arith}
 use borrow.Author.Tests.{lt-ltb, le-ltb, ltb-true, ltb-false}
 use lib.Dec.{ltb}
 use lib.ListN.{length, take, drop, set, get_or, length-append, length-drop, take-append-drop}
-use lib.Seq.{take_at, drop_at, drop-drop, drop-cons, take-suc, set_at, length-take-le, append_snoc}
+use borrow.Rule.Slice.PartMut.{put_mid}
+use Rattle.std.proofs.Common.{subst, take_all}
+use lib.Seq.{get_or-take, take_at, drop_at, drop-drop, drop-cons, take-suc, set_at, length-take-le, append_snoc}
 use Rattle.io.specs.Digits.{hex_digit_ascii, last_digits, IsDigitCount}
 use Rattle.controller.specs.Text.{blank, newline, decimal_in, decimal, row_text, pasted}
 
@@ -140,82 +142,113 @@ module _ (old : List ℕ) (p : ℕ) (xs : List ℕ) (h : p + length xs ≤ lengt
       ∙ ap (λ (k : ℕ). (take p old ++ (xs ++ (x ∷ []))) ++ drop k old) (sym n)
       ∙ sym (pasted_front old p (xs ++ (x ∷ [])))
 
--- ---- a number put digit by digit
+-- ---- a number and a byte put
 
--- i digits of k are put
-pub record Put (old : List ℕ) (p k : ℕ) (ds : List ℕ) (i : ℕ) (now : List ℕ) : Type 0 where
-  pub few : i ≤ k
-  pub text : now ≡ pasted old p (take i ds)
+-- the digits copied to place p, and the byte set behind them
+module _ (old : List ℕ) (p n k : ℕ) (ds : List ℕ) (h : Spelled n k ds) (room : p + 21 ≤ length old) (a : ℕ) where
+  length_digits : length (take k ds) ≡ k
+  length_digits = length-take-le k ds h.room
 
-module _ (old : List ℕ) (p n k : ℕ) (ds : List ℕ) (h : Spelled n k ds) (room : p + 21 ≤ length old) (i : ℕ) (now : List ℕ) (t : Put old p k ds i now) where
-  length_put : length (take i ds) ≡ i
-  length_put = length-take-le i ds (omega (arith, h.room, t.few))
+  pub put_place : p + k + 1 ≡ p + length (decimal n ++ (a ∷ []))
+  put_place = omega (arith, length-append (decimal n) (a ∷ []), ap length h.are, length_digits)
 
+  copied : put_mid p k old (take k ds) ≡ pasted old p (take k ds)
+  unfolding pasted
+  copied = ap (λ (l : List ℕ). take p old ++ (take k ds ++ l)) (drop-drop k p old ∙ ap (λ (j : ℕ). drop (p + j) old) (sym length_digits))
+
+  pub put_text : (j : ℕ) (ys : List ℕ) → j ≡ k → ys ≡ take k ds → set (put_mid p j old ys) (p + k) a ≡ pasted old p (decimal n ++ (a ∷ []))
+  put_text j ys e t =
+      ap₂ (λ (m : ℕ) (xs : List ℕ). set (put_mid p m old xs) (p + k) a) e t
+      ∙ ap₂ (λ (o : List ℕ) (m : ℕ). set o (p + m) a) copied (sym length_digits)
+      ∙ pasted_one old p (take k ds) (omega (arith, length_digits, h.few)) a (omega (arith, length_digits, h.few))
+      ∙ ap (λ (xs : List ℕ). pasted old p (xs ++ (a ∷ []))) h.are
+
+-- ---- text put behind text
+
+-- a text is put from place p on, and q is the place behind
+pub record TextPut (old : List ℕ) (p : ℕ) (xs : List ℕ) (q : ℕ) (now : List ℕ) : Type 0 where
+  pub place : q ≡ p + length xs
+  pub text : now ≡ pasted old p xs
+
+pub put_nothing : (old : List ℕ) (p : ℕ) → TextPut old p [] p old
+put_nothing old p = record { place = sym (add-zero p); text = sym (pasted_none old p) }
+
+module _ (old : List ℕ) (p : ℕ) (xs : List ℕ) (q : ℕ) (now : List ℕ) (w : TextPut old p xs q now) (h : p + length xs ≤ length old) where
   pub put_length : length now ≡ length old
-  put_length = ap length t.text ∙ length_pasted old p (take i ds) (omega (arith, length_put, h.few, t.few))
+  put_length = ap length w.text ∙ length_pasted old p xs h
 
-  -- one more byte
-  put_byte : (x : ℕ) → set now (p + i) x ≡ pasted old p (take i ds ++ (x ∷ []))
-  put_byte x =
-      let e = length_put in
-      ap (λ (o : List ℕ). set o (p + i) x) t.text
-      ∙ ap (λ (j : ℕ). set (pasted old p (take i ds)) (p + j) x) (sym e)
-      ∙ pasted_one old p (take i ds) (omega (arith, h.few, t.few)) x (omega (arith, h.few, t.few))
-
-  pub put_digit : i < k → Put old p k ds (i + 1) (set now (p + i) (get_or ds i 0))
-  put_digit l =
+  pub put_more : (ys : List ℕ) (r : ℕ) (next : List ℕ) → r ≡ q + length ys → next ≡ pasted now q ys → TextPut old p (xs ++ ys) r next
+  put_more ys r next e t =
       record {
-        few = omega arith;
-        text = put_byte (get_or ds i 0)
-            ∙ ap (pasted old p) (sym (take-suc ds i 0 (omega (arith, h.room))) ∙ ap (λ (j : ℕ). take j ds) (sym (add-one i)));
+        place = omega (arith, w.place, length-append xs ys);
+        text = t ∙ ap₂ (λ (o : List ℕ) (k : ℕ). pasted o k ys) w.text w.place ∙ pasted_more old p xs h ys;
       }
-
-  module _ (last : k ≤ i) (a : ℕ) where
-    all : i ≡ k
-    all = omega (arith, t.few)
-
-    put_all : take i ds ≡ decimal n
-    put_all = ap (λ (j : ℕ). take j ds) all ∙ h.are
-
-    pub put_place : p + k + 1 ≡ p + length (decimal n ++ (a ∷ []))
-    put_place = omega (arith, length-append (decimal n) (a ∷ []), ap length put_all, length_put, all)
-
-    pub put_last : set now (p + k) a ≡ pasted old p (decimal n ++ (a ∷ []))
-    put_last =
-        ap (λ (j : ℕ). set now (p + j) a) (sym all)
-        ∙ put_byte a
-        ∙ ap (λ (xs : List ℕ). pasted old p (xs ++ (a ∷ []))) put_all
 
 -- ---- a row put number by number
 
--- a number of at most 21 bytes leaves room for the others
-pub room_next : (k p q x a : ℕ) (old now : List ℕ) → p + 21 * (k + 1) ≤ length old → q ≡ p + length (decimal x ++ (a ∷ []))
-    → now ≡ pasted old p (decimal x ++ (a ∷ [])) → q + 21 * k ≤ length now
-room_next k p q x a old now h e t =
-    let l = length_number x a in
-    omega (arith, ap length t, length_pasted old p (decimal x ++ (a ∷ [])) (omega arith))
+-- numbers, a blank behind each
+unfoldable pub spaced : List ℕ → List ℕ
+spaced [] = []
+spaced (x ∷ xs) = (decimal x ++ (blank ∷ [])) ++ spaced xs
 
--- a row is put
-pub record RowPut (old : List ℕ) (p : ℕ) (xs : List ℕ) (q : ℕ) (now : List ℕ) : Type 0 where
-  pub place : q ≡ p + length (row_text xs)
-  pub text : now ≡ pasted old p (row_text xs)
+spaced_more : (xs : List ℕ) (x : ℕ) → spaced (xs ++ (x ∷ [])) ≡ spaced xs ++ (decimal x ++ (blank ∷ []))
+unfolding spaced
+spaced_more [] x = append-nil (decimal x ++ (blank ∷ []))
+spaced_more (y ∷ ys) x =
+    ap (λ (l : List ℕ). (decimal y ++ (blank ∷ [])) ++ l) (spaced_more ys x)
+    ∙ sym (append_assoc (decimal y ++ (blank ∷ [])) (spaced ys) (decimal x ++ (blank ∷ [])))
 
-pub row_put_last : (old now : List ℕ) (p q x : ℕ) → q ≡ p + length (decimal x ++ (newline ∷ [])) → now ≡ pasted old p (decimal x ++ (newline ∷ []))
-    → RowPut old p (x ∷ []) q now
-row_put_last old now p q x e t = record { place = rw (row_last x) e; text = rw (row_last x) t }
+length_spaced : (xs : List ℕ) → length (spaced xs) ≤ 21 * length xs
+unfolding spaced
+length_spaced [] = omega arith
+length_spaced (x ∷ xs) = omega (arith, length-append (decimal x ++ (blank ∷ [])) (spaced xs), length_number x blank, length_spaced xs)
 
--- a number before the row
-pub row_put_more : (old mid now : List ℕ) (p r q x y : ℕ) (ys : List ℕ) → p + 21 ≤ length old
-    → r ≡ p + length (decimal x ++ (blank ∷ [])) → mid ≡ pasted old p (decimal x ++ (blank ∷ []))
-    → RowPut mid r (y ∷ ys) q now → RowPut old p (x ∷ y ∷ ys) q now
-row_put_more old mid now p r q x y ys h e t w =
-    let front = decimal x ++ (blank ∷ []) in
-    let rest = row_text (y ∷ ys) in
-    record {
-      place = rw (row_more x y ys) (omega (arith, length-append front rest, w.place));
-      text =
-          w.text
-          ∙ (rw (t, e))
-          ∙ pasted_more old p front (omega (arith, length_number x blank)) rest
-          ∙ ap (pasted old p) (sym (row_more x y ys));
-    }
+row_spaced : (xs : List ℕ) (x : ℕ) → row_text (xs ++ (x ∷ [])) ≡ spaced xs ++ (decimal x ++ (newline ∷ []))
+unfolding spaced
+row_spaced [] x = row_last x
+row_spaced (y ∷ []) x =
+    row_more y x []
+    ∙ ap₂ (λ (a b : List ℕ). a ++ b) (sym (append-nil (decimal y ++ (blank ∷ [])))) (row_last x)
+row_spaced (y ∷ z ∷ zs) x =
+    row_more y z (zs ++ (x ∷ []))
+    ∙ ap (λ (l : List ℕ). (decimal y ++ (blank ∷ [])) ++ l) (row_spaced (z ∷ zs) x)
+    ∙ sym (append_assoc (decimal y ++ (blank ∷ [])) (spaced (z ∷ zs)) (decimal x ++ (newline ∷ [])))
+
+pub row_start : (old : List ℕ) (p : ℕ) (row : List ℕ) → TextPut old p (spaced (take 0 row)) p old
+unfolding spaced
+row_start old p row = put_nothing old p
+
+-- i numbers of a row of seven are put, of those before the last
+module _ (old : List ℕ) (p : ℕ) (row : List ℕ) (i q : ℕ) (now : List ℕ) (w : TextPut old p (spaced (take i row)) q now) (seven : length row ≡ 7) (before : i ≤ length (take 6 row)) (room : p + 147 ≤ length old) where
+  six : length (take 6 row) ≡ 6
+  six = length-take-le 6 row (omega (arith, seven))
+
+  few : length (spaced (take i row)) ≤ 21 * i
+  few = omega (arith, length_spaced (take i row), length-take-le i row (omega (arith, seven, six, before)))
+
+  fits : p + length (spaced (take i row)) ≤ length old
+  fits = omega (arith, few, six, before, room)
+
+  -- the i numbers and number i
+  one_more : take (suc i) row ≡ take i row ++ (get_or row i 0 ∷ [])
+  one_more = take-suc row i 0 (omega (arith, seven, six, before))
+
+  -- room for one more
+  pub number_room : q + 21 ≤ length now
+  number_room = omega (arith, w.place, few, six, before, room, put_length old p (spaced (take i row)) q now w fits)
+
+  pub number_turn : i < length (take 6 row) → (r : ℕ) (next : List ℕ) → r ≡ q + length (decimal (get_or (take 6 row) i 0) ++ (blank ∷ []))
+      → next ≡ pasted now q (decimal (get_or (take 6 row) i 0) ++ (blank ∷ [])) → TextPut old p (spaced (take (i + 1) row)) r next
+  number_turn more r next e t =
+      let x = get_or (take 6 row) i 0 in
+      rw (add-one i, one_more, ← (get_or-take 6 row i 0 (omega (arith, six, more))), spaced_more (take i row) x)
+      (put_more old p (spaced (take i row)) q now w fits (decimal x ++ (blank ∷ [])) r next e t)
+
+  pub number_last : length (take 6 row) ≤ i → (r : ℕ) (next : List ℕ) → r ≡ q + length (decimal (get_or row 6 0) ++ (newline ∷ []))
+      → next ≡ pasted now q (decimal (get_or row 6 0) ++ (newline ∷ [])) → TextPut old p (row_text row) r next
+  number_last last r next e t =
+      let x = get_or row 6 0 in
+      let all : take i row ++ (x ∷ []) ≡ row =
+      ap (λ (k : ℕ). take i row ++ (get_or row k 0 ∷ [])) (omega (arith, six, before, last)) ∙ sym one_more ∙ take_all (suc i) row (omega (arith, seven, six, last)) in
+      subst (λ (l : List ℕ). TextPut old p l r next) (sym (row_spaced (take i row) x) ∙ ap row_text all)
+      (put_more old p (spaced (take i row)) q now w fits (decimal x ++ (newline ∷ [])) r next e t)

@@ -6,7 +6,7 @@
 #![tactic(auto)]
 
 ghost use Rattle.std.specs.Prelude.{◌≡◌, true, ◌+◌, ◌≤◌, length, take};
-ghost use Rattle.blocks.specs.declared.Verdict.TheVariants.{Good};
+ghost use Rattle.blocks.specs.Verdicts.{no_fault};
 ghost use Rattle.model.specs.Valid.{valid};
 
 mod pieces;
@@ -15,7 +15,6 @@ mod text;
 
 use engine::Config;
 use model::{Loaded, Model, Verdict};
-use std::fs::File;
 use std::io::{Read, Stdin};
 use std::rt::Files;
 
@@ -34,7 +33,11 @@ const OUTPUT: usize = 147 * COMMANDS;
 // One block more than a model file may have: a longer file is refused by its length.
 const FILE: usize = 44 * 512;
 
-// A tape served: the configuration behind it, and how long its text is.
+// Pieces of input in all, each of a byte or more.
+const TURNS: u64 = 1 << 50;
+
+// A tape served: the configuration behind it, and how long its text is, which stands at the front of a buffer. The lengths beside the
+// buffers stay: `served_of`, `place_in` and `piece_in`, of which `printed_pieces` speaks, name them.
 #[derive(Clone, Copy)]
 pub struct Served {
     pub config: Config,
@@ -51,40 +54,21 @@ pub struct Serving {
     pub length: usize,
 }
 
-// Reads until the room is full, the file ends or a read fails, and answers how many bytes are now at the front of the room.
-fn read_full<F: Read + Drop>(mut file: F, room: &mut [u8]) -> usize
-    ensures { result ≤ length room.new }
-{
-    let mut done = 0;
-    while done < room.len() {
-        let got = file.read(&mut room[done..]).unwrap_or(0);
-        if got == 0 {
-            break;
-        }
-        done += got;
-    }
-    done
-}
-
 // The model in `model.bin`. What cannot be opened or read has length 0.
 fn load_model(rt: &impl Files) -> Loaded
-    ensures { (result.verdict ≡ Good) → (valid result.model ≡ true) }
+    ensures { (result.verdict ≡ no_fault) → (valid result.model ≡ true) }
 {
     let mut room = [0u8; FILE];
-    let n = match File::open(rt, "model.bin") {
-        Ok(file) => read_full(file, &mut room),
-        Err(_) => 0,
-    };
-    model::load(&room[..n])
+    model::load(files::read(rt, "model.bin", &mut room).unwrap_or_default())
 }
 
 // Prints why a file is refused, and the block.
 fn print_refusal(rt: &impl Print, verdict: Verdict) {
-    let mut out = [0u8; 64];
-    let a = text::put(&mut out, 0, model::refusal(verdict) as u64, b' ');
-    let b = text::put(&mut out, a, model::place(verdict) as u64, b'\n');
-    let _ = rt.write_all(b"model ");
-    let _ = rt.write_all(&out[..b]);
+    let _ = println!(rt;
+        "model {} {}",
+        model::refusal(verdict),
+        model::place(verdict)
+    );
 }
 
 // Reads once behind the bytes held over, and answers how many came: 0 at the end of the input, and where it cannot be read.
@@ -98,7 +82,7 @@ fn read_some(input: &mut Stdin, room: &mut [u8], held: usize) -> usize
 }
 
 // Serves the input to its end. A proved loop has to end, and nothing says that the input does, so the turns are counted
-// down from a number that no run uses up.
+// up to a number that no run reaches.
 fn serve_all(rt: &HostRuntime, m: Model)
     requires { valid m ≡ true }
 {
@@ -106,41 +90,33 @@ fn serve_all(rt: &HostRuntime, m: Model)
     let mut room = [0u8; INPUT];
     let mut numbers = [0u32; NUMBERS];
     let mut out = [0u8; OUTPUT];
-    let fresh = engine::fresh(m);
-    let config = fresh.config;
     let mut at = Serving {
-        config: config,
+        config: engine::fresh(m).config,
         held: 0,
         next: 1,
         length: 0,
     };
-    let mut turns: u64 = 1125899906842624;
-    while turns > 0 {
+    for _ in 0..TURNS {
         let got = read_some(&mut input, &mut room, at.held);
         if got == 0 {
             break;
         }
         at = pieces::piece(m, at, &mut room, got, &mut numbers, &mut out);
-        let length = at.length;
-        if rt.write_all(&out[..length]).is_err() {
+        if rt.write_all(&out[..at.length]).is_err() {
             return;
         }
-        turns -= 1;
     }
-    let length = pieces::ending(at.held, &mut out);
-    let _ = rt.write_all(&out[..length]);
+    let _ = rt.write_all(pieces::ending(at.held));
 }
 
 fn main(rt: HostRuntime) {
-    let loaded = load_model(&rt);
-    let verdict = loaded.verdict;
-    let m = loaded.model;
+    let Loaded { model, verdict } = load_model(&rt);
     match verdict {
-        Verdict::Good => {
+        Ok(()) => {
             if rt.write_all(b"n c s r state word pool\n").is_ok() {
-                serve_all(&rt, m);
+                serve_all(&rt, model);
             }
         }
-        _ => print_refusal(&rt, verdict),
+        Err(_) => print_refusal(&rt, verdict),
     }
 }

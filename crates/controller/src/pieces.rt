@@ -14,13 +14,8 @@ fn keep_rest(room: &mut [u8], from: usize, to: usize) -> usize
     ensures count { from + result ≡ to }
     ensures bytes { take result room.new ≡ drop from (take to room.old) }
 {
-    let mut i: usize = 0;
-    while from + i < to {
-        let byte = room[from + i];
-        room[i] = byte;
-        i += 1;
-    }
-    i
+    room.copy_within(from..to, 0);
+    to - from
 }
 
 // Serves a piece: the bytes held over, at the front of the room, and the `got` bytes behind them. Its text is put at the
@@ -45,32 +40,21 @@ pub(crate) fn piece(
     ensures next { result.next ≡ at.next + (at.held + got) / 8 }
     ensures fits { result.length ≤ length out.old }
 {
-    let config = at.config;
     let have = at.held + got;
     let n = have / 8;
-    let served = printed::serve(m, config, &room[..have], numbers, at.next, out);
-    let behind = served.config;
+    let served = printed::serve(m, at.config, &room[..have], numbers, at.next, out);
     let held = keep_rest(room, 8 * n, have);
     Serving {
-        config: behind,
-        held: held,
+        config: served.config,
+        held,
         next: at.next + n as u64,
         length: served.length,
     }
 }
 
-// Puts at the front of the buffer what is printed at the end of the input, and answers how long it is.
-pub(crate) fn ending(held: usize, out: &mut [u8]) -> usize
-    requires { 4 ≤ length out.old }
-    ensures fits { result ≤ length out.old }
-    ensures text { take result out.new ≡ ending held }
+// What is printed at the end of the input.
+pub(crate) fn ending(held: usize) -> &'static [u8]
+    ensures { result.now ≡ ending held }
 {
-    if held == 0 {
-        return 0;
-    }
-    out[0] = b'c';
-    out[1] = b'u';
-    out[2] = b't';
-    out[3] = b'\n';
-    4
+    if held == 0 { b"" } else { b"cut\n" }
 }

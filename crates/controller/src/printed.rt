@@ -10,32 +10,20 @@ use super::{Served, text};
 use engine::Config;
 use model::Model;
 
-// Puts a line into the buffer from place p on, and answers the place behind. A line has seven numbers.
-fn put_line(
-    out: &mut [u8],
-    p: usize,
-    count: u64,
-    code: u8,
-    shown: u8,
-    refusal: u32,
-    state: u32,
-    word: u32,
-    entries: u32,
-) -> usize
+// Puts a line into the buffer from place p on, and answers the place behind.
+fn put_line(out: &mut [u8], p: usize, row: [u64; 7]) -> usize
     requires { p + 147 ≤ length out.old }
-    ensures place { result ≡ p + length (row_text (count ∷ code ∷ shown ∷ refusal ∷ state ∷ word ∷ entries ∷ [])) }
-    ensures text { out.new ≡ pasted out.old p (row_text (count ∷ code ∷ shown ∷ refusal ∷ state ∷ word ∷ entries ∷ [])) }
+    ensures place { result ≡ p + length (row_text row) }
+    ensures text { out.new ≡ pasted out.old p (row_text row) }
 {
-    let a = text::put(out, p, count, b' ');
-    let b = text::put(out, a, code as u64, b' ');
-    let c = text::put(out, b, shown as u64, b' ');
-    let d = text::put(out, c, refusal as u64, b' ');
-    let e = text::put(out, d, state as u64, b' ');
-    let f = text::put(out, e, word as u64, b' ');
-    text::put(out, f, entries as u64, b'\n')
+    let mut at = p;
+    for x in &row[..6] {
+        at = text::put(out, at, *x, b' ');
+    }
+    text::put(out, at, row[6], b'\n')
 }
 
-// The subject that a line shows: for Tick, code 8, subject 0.
+// The subject that a line shows: for Tick, code 8, subject 0. engine has the same for itself: a public one would be a call for one line.
 fn shown_of(code: u8, subject: u8) -> u8
     ensures { result ≡ cond (eqb code 8) 0 subject }
 {
@@ -51,25 +39,21 @@ fn put_lines(tape: &[u8], numbers: &[u32], first: u64, out: &mut [u8]) -> usize
     ensures place { result ≡ length (rows_text tape.now numbers.now first (commands tape.now)) }
     ensures text { out.new ≡ pasted out.old 0 (rows_text tape.now numbers.now first (commands tape.now)) }
 {
-    let n = tape.len() / 8;
     let mut p: usize = 0;
-    let mut i: usize = 0;
-    while i < n {
+    for i in 0..tape.len() / 8 {
         let code = tape[8 * i];
         let shown = shown_of(code, tape[8 * i + 1]);
         let at = 4 * i;
-        p = put_line(
-            out,
-            p,
+        let row = [
             first + i as u64,
-            code,
-            shown,
-            numbers[at],
-            numbers[at + 1],
-            numbers[at + 2],
-            numbers[at + 3],
-        );
-        i += 1;
+            code as u64,
+            shown as u64,
+            numbers[at] as u64,
+            numbers[at + 1] as u64,
+            numbers[at + 2] as u64,
+            numbers[at + 3] as u64,
+        ];
+        p = put_line(out, p, row);
     }
     p
 }
@@ -95,9 +79,8 @@ pub(crate) fn serve(
 {
     let ran = engine::run(m, c, tape, numbers);
     let length = put_lines(tape, numbers, first, out);
-    let config = ran.config;
     Served {
-        config: config,
-        length: length,
+        config: ran.config,
+        length,
     }
 }

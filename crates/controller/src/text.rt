@@ -10,11 +10,7 @@ pub(crate) fn put(out: &mut [u8], p: usize, n: u64, after: u8) -> usize
 {
     let mut digits = [0u8; 20];
     let k = io::decimal(n, &mut digits);
-    let mut i: usize = 0;
-    while i < k {
-        out[p + i] = digits[i];
-        i += 1;
-    }
+    out[p..p + k].copy_from_slice(&digits[..k]);
     out[p + k] = after;
     p + k + 1
 }

@@ -1,4 +1,5 @@
 -- A chattering probe never takes a place from a healthy sender: what the commands of one subject leave of the others.
+use Rattle.std.specs.Prelude.{Option, Some, None}
 use mathlib.Core.Path.{◌≡◌, refl, sym, ap, ◌∙◌}
 use mathlib.Core.Logic.{◌≢◌, ◌↔◌}
 use mathlib.Core.Bool.{Bool, true, false, ◌&&◌, ◌||◌, not}
@@ -10,8 +11,6 @@ use lib.Dec.{eqb}
 use lib.ListN.{get_or}
 use Rattle.sets.specs.Lists.{all_of, passing, counted}
 use Rattle.sets.specs.Masks.{bit}
-use Rattle.sets.specs.declared.Found.{Found}
-use Rattle.sets.specs.declared.Found.TheVariants.{At, Nothing}
 use Rattle.sets.proofs.Tests.{not_both, and_false, choose}
 use Rattle.sets.proofs.Lists.{counted_append, counted_map, counted_passing, counted_same}
 use Rattle.model.specs.Rules.{any}
@@ -129,10 +128,10 @@ module _ (m : Model) (c : Config) (h : Held c) (r : ℕ) (l : r < most_subjects)
   alone_put s x d = alone_same (at c r) _ (at_put_other c s x r d)
 
   -- another takes
-  alone_taking : (s e : ℕ) (end : Bool) (f : Found) → r ≢ s → LeftAlone (at c r) (at (taking_at f (here_of m c s) end c s e) r)
+  alone_taking : (s e : ℕ) (end : Bool) (f : Option ℕ) → r ≢ s → LeftAlone (at c r) (at (taking_at f (here_of m c s) end c s e) r)
   unfolding taking_at
-  alone_taking s e end (At i) d = alone_put s _ d
-  alone_taking s e end Nothing d = alone_same (at c r) (at c r) refl
+  alone_taking s e end (Some i) d = alone_put s _ d
+  alone_taking s e end None d = alone_same (at c r) (at c r) refl
 
   -- an accepted command that names no r
   pub left_alone : (k : Command) → refusal_of (stepped m c k).answer ≡ 0 → (names k ≡ true → r ≢ subject_of k) → LeftAlone (at c r) (at (effect_of m c k).config r)

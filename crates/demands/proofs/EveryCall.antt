@@ -1,4 +1,5 @@
 -- Every call answers: with 0 or one of its numbers, and what is refused hands back what went in.
+use Rattle.std.specs.Prelude.{Ok, Err, Result}
 use mathlib.Core.Path.{◌≡◌, refl, ap, ◌∙◌}
 use mathlib.Core.Logic.{◌≢◌}
 use mathlib.Core.Bool.{Bool, true, false}
@@ -9,8 +10,8 @@ use Rattle.sets.specs.Lists.{all_of, is_one_of}
 use Rattle.sets.proofs.Lists.{one_more}
 use Rattle.sets.proofs.Tests.{choose}
 use Rattle.blocks.specs.Verdicts as verdicts
-use Rattle.blocks.specs.declared.Verdict.{Verdict}
-use Rattle.blocks.specs.declared.Verdict.TheVariants.{Good, Length, Check, Block, Record, Across}
+use Rattle.blocks.specs.Verdicts.{Verdict, no_fault}
+use Rattle.blocks.specs.declared.Fault.TheVariants.{Length, Check, Block, Record, Across}
 use Rattle.model.specs.Loading.{loaded}
 use Rattle.model.specs.Valid.{valid}
 use Rattle.model.specs.declared.Model.{Model}
@@ -21,7 +22,7 @@ use Rattle.engine.specs.configs.Fresh.{fresh_config, fresh_of}
 use Rattle.engine.specs.configs.Shares.{shared_out, share_of}
 use Rattle.engine.specs.configs.Subjects.{zero_config}
 use Rattle.engine.specs.declared.Config.{Config}
-use Rattle.engine.specs.declared.Share.{Share}
+use Rattle.engine.specs.declared.NotAsked.{NotAsked}
 use Rattle.engine.specs.declared.Stepped.{Stepped}
 use Rattle.engine.specs.commands.Codes.{command_in}
 use Rattle.engine.specs.commands.Exact.{rules_of, coded_rules}
@@ -61,12 +62,12 @@ answers_by ks c list next fine all =
 -- every verdict has a number from 0 to 5
 load_number : (v : Verdict) → is_one_of (0 ∷ 1 ∷ 2 ∷ 3 ∷ 4 ∷ 5 ∷ []) (verdicts.refusal_of v) ≡ true
 unfolding is_one_of
-load_number Good = refl
-load_number Length = refl
-load_number (Check b) = refl
-load_number (Block b) = refl
-load_number (Record b) = refl
-load_number Across = refl
+load_number (Ok done) = refl
+load_number (Err Length) = refl
+load_number (Err (Check b)) = refl
+load_number (Err (Block b)) = refl
+load_number (Err (Record b)) = refl
+load_number (Err Across) = refl
 
 -- 8, and the all-zero configuration
 fresh_answers : (m : Model) → Answers (8 ∷ []) zero_config (fresh_of m)
@@ -75,7 +76,7 @@ fresh_answers m =
     choose (Answers (8 ∷ []) zero_config) (valid m) (λ _. answers_accepted (8 ∷ []) zero_config (done (fresh_config m)) refl) (λ _. answers_refused (8 ∷ []) zero_config 8 refl)
 
 -- a refusal has the number 8 or 11, and is no yes
-record ShareAnswers (x : Share) : Type 0 where
+record ShareAnswers (x : Result Bool NotAsked) : Type 0 where
   number : is_one_of (0 ∷ 8 ∷ 11 ∷ []) (share_refusal x) ≡ true
   refused_no : share_refusal x ≢ 0 → is_yes x ≡ false
 
@@ -86,7 +87,7 @@ share_answers m owner =
     choose ShareAnswers (valid m)
     (λ _.
     choose ShareAnswers (ltb owner m.n)
-    (λ _. choose ShareAnswers (shared_out most_entries m owner) (λ _. record { number = refl; refused_no = λ some. absurd (some refl) }) (λ _. record { number = refl; refused_no = λ _. refl }))
+    (λ _. record { number = refl; refused_no = λ some. absurd (some refl) })
     (λ _. record { number = refl; refused_no = λ _. refl }))
     (λ _. record { number = refl; refused_no = λ _. refl })
 

@@ -1,4 +1,5 @@
 -- What an accepted command does to a pool.
+use Rattle.std.specs.Prelude.{Option, Some, None}
 use mathlib.Core.Path.{◌≡◌, refl}
 use mathlib.Core.Bool.{Bool, true, false, not}
 use mathlib.Core.List.{List, [], ◌∷◌, ◌++◌, map}
@@ -9,8 +10,6 @@ use lib.Dec.{eqb}
 use lib.ListN.{length}
 use Rattle.sets.specs.Lists.{passing, without}
 use Rattle.sets.specs.Masks.{bit}
-use Rattle.sets.specs.declared.Found.{Found}
-use Rattle.sets.specs.declared.Found.TheVariants.{At, Nothing}
 use Rattle.sets.proofs.Tests.{choose}
 use Rattle.model.specs.Rules.{any}
 use Rattle.model.specs.Sizes.{most_subjects}
@@ -61,16 +60,16 @@ module _ (m : Model) (c : Config) (h : Held c) (r : ℕ) (l : r < most_subjects)
   put_same s x j e p = rw (each_put (λ k y. y.pool ≡ (at c k).pool) c s x j e r (λ _. refl)) p
 
   -- only the pool of s loses an entry, where there is one to take
-  taking_moves : (s e : ℕ) (end : Bool) (f : Found) → s < length c.subjects → P (held (at c r).pool) → Moved m c s r P → P (held (at (taking_at f (here_of m c s) end c s e) r).pool)
+  taking_moves : (s e : ℕ) (end : Bool) (f : Option ℕ) → s < length c.subjects → P (held (at c r).pool) → Moved m c s r P → P (held (at (taking_at f (here_of m c s) end c s e) r).pool)
   unfolding taking_at entered
-  taking_moves s e end (At i) j same p = go (eqb r s) refl
+  taking_moves s e end (Some i) j same p = go (eqb r s) refl
     where
-      go : (b : Bool) → eqb r s ≡ b → P (held (at (taking_at (At i) (here_of m c s) end c s e) r).pool)
+      go : (b : Bool) → eqb r s ≡ b → P (held (at (taking_at (Some i) (here_of m c s) end c s e) r).pool)
       go true q =
           let e = eqb-true r s q in
           rw (e, at_put_same c s _ j, held_taken most_entries (at c s).pool i) (rw e at (p.taken e i))
       go false q = rw (at_put_other c s _ r (eqb-false r s q)) same
-  taking_moves s e end Nothing j same p = same
+  taking_moves s e end None j same p = same
 
   -- after an accepted command
   pub pool_moved : (k : Command) → refusal_of (stepped m c k).answer ≡ 0 → P (held (at c r).pool)

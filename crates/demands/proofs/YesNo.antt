@@ -1,4 +1,5 @@
 -- The yes/no for a pool: what yes means, and the limit of a sender in a pool that is shared out.
+use Rattle.std.specs.Prelude.{Ok, Err}
 use mathlib.Core.Path.{◌≡◌, refl, ap, ◌∙◌}
 use mathlib.Core.Bool.{Bool, true, false, ◌&&◌, ◌||◌, not, cond}
 use Prim.Native.Nat.{ℕ, ◌<◌}
@@ -16,7 +17,7 @@ use Rattle.engine.specs.pools.Sizes.{most_entries}
 use Rattle.engine.specs.configs.Answers.{is_yes}
 use Rattle.engine.specs.configs.Shares.{row_names, rows_name, none_twice, has_row, sends_to, can_send, senders_have_rows, limits_fit, shared_out, share_of}
 use Rattle.engine.specs.configs.Subjects.{is_send, state_of}
-use Rattle.engine.specs.declared.Share.TheVariants.{Yes, No, NotAsked}
+use Rattle.engine.specs.declared.NotAsked.TheVariants.{ModelNotValid, NoSubject}
 use Rattle.engine.proofs.Cited.{if_true, true_if}
 use Rattle.demands.specs.Shares.{SendsTo, RowFor, SharedOut, YesSays, limit_of, LimitIsTheRows}
 use Rattle.demands.proofs.Counting.{sum_one, two_names}
@@ -106,7 +107,7 @@ module _ (m : Model) (owner : ℕ) where
   yes_read h = go (valid m) refl (ltb owner m.n) refl (shared_out most_entries m owner) refl h
     where
       go : (a : Bool) → valid m ≡ a → (b : Bool) → ltb owner m.n ≡ b → (d : Bool) → shared_out most_entries m owner ≡ d
-          → is_yes (cond a (cond b (cond d Yes No) (NotAsked 11)) (NotAsked 8)) ≡ true
+          → is_yes (cond a (cond b (Ok d) (Err NoSubject)) (Err ModelNotValid)) ≡ true
           → (valid m ≡ true) × (owner < m.n) × SharedOut m owner
       go true v true l true k e = (v, ltb-true owner m.n l, shared_read k)
       go true v true l false k e = not_both e refl

@@ -1,4 +1,5 @@
 -- Steps that change one subject's own fields keep a configuration good: Do, Take, Run and Tick.
+use Rattle.std.specs.Prelude.{Some}
 use mathlib.Core.Path.{◌≡◌, refl, sym, ap, ◌∙◌}
 use mathlib.Core.Bool.{Bool, true, false, ◌&&◌, cond}
 use mathlib.Core.List.{List, append-nil}
@@ -12,7 +13,6 @@ use lib.Seq.{take_all}
 use Rattle.sets.specs.Lists.{all_of, counted, without}
 use Rattle.sets.specs.Masks.{bit}
 use Rattle.sets.specs.Tests.{within}
-use Rattle.sets.specs.declared.Found.TheVariants.{At}
 use Rattle.sets.proofs.Tests.{not_both, and_both, within_is, within_true, choose}
 use Rattle.sets.proofs.Below.{length_table, table_at}
 use Rattle.sets.proofs.Lists.{all_of_without, counted_without, find_is}
@@ -319,7 +319,7 @@ module _ (m : Model) (v : valid m ≡ true) (c : Config) (k : Held c) (g : GoodC
   -- ---- Take
 
   -- what was taken out was a message: no reservation is gone
-  taken_same : (e i : ℕ) → wanted_at here e (at c s) ≡ At i → (q t : ℕ)
+  taken_same : (e i : ℕ) → wanted_at here e (at c s) ≡ Some i → (q t : ℕ)
       → reservations q t (held (taken_at most_entries (at c s).pool i).pool) ≡ reservations q t (held (at c s).pool)
   unfolding first_message
   taken_same e i h q t =
@@ -327,8 +327,8 @@ module _ (m : Model) (v : valid m ≡ true) (c : Config) (k : Held c) (g : GoodC
       ap (reservations q t) (held_taken most_entries (at c s).pool i)
       ∙ without_message q t (exit_at here e).sender (exit_at here e).typ i (held (at c s).pool) f.below f.here
 
-  pub kept_take : here.kind ≡ 3 → (e i : ℕ) → e < here.exits → wanted_at here e (at c s) ≡ At i → (end : Bool)
-      → end ≡ is_end (state_of m s (exit_at here e).target).kind → GoodConfig m (taking_at (At i) here end c s e)
+  pub kept_take : here.kind ≡ 3 → (e i : ℕ) → e < here.exits → wanted_at here e (at c s) ≡ Some i → (end : Bool)
+      → end ≡ is_end (state_of m s (exit_at here e).target).kind → GoodConfig m (taking_at (Some i) here end c s e)
   unfolding taking_at
   kept_take kind e i le h end is-end =
       kept_enter
@@ -469,7 +469,7 @@ module _ (c : Config) (k : Held c) where
         k
         (held_enter (exit_at here e).target end (with_word w (at c s)) h.marks h.entries)
 
-    pub held_take : Well most_entries (at c s).pool → (e i : ℕ) → Held (taking_at (At i) here end c s e)
+    pub held_take : Well most_entries (at c s).pool → (e i : ℕ) → Held (taking_at (Some i) here end c s e)
     unfolding taking_at
     held_take w e i =
         let x = with_word (taken_at most_entries (at c s).pool i).content (with_pool (taken_at most_entries (at c s).pool i).pool (at c s)) in

@@ -9,6 +9,7 @@ pub mod KeptReserve
 pub mod Seen
 pub mod Kept
 pub mod PlaceLaws
+pub mod RefusalLaws
 pub mod Machine
 pub mod StoreLaws
 pub mod TurnLaws

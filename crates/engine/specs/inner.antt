@@ -1,3 +1,4 @@
 pub mod Reads
+pub mod Refusals
 pub mod Spine
 pub mod Tapes

@@ -4,6 +4,7 @@
 mod commands;
 mod configs;
 mod pools;
+mod refusals;
 mod steps;
 mod tapes;
 
@@ -17,8 +18,9 @@ pub use steps::{run, step, step_coded};
 // Entries of a pool.
 pub const MOST_ENTRIES: usize = 16;
 
-// An entry: a message with its content, or a reservation, whose content is 0.
-#[derive(Clone, Copy)]
+// An entry: a message with its content, or a reservation, whose content is 0. A flag beside the content: one that breaks this may be
+// handed in, and `is_valid` answers no.
+#[derive(Clone, Copy, Default, PartialEq, Eq)]
 pub struct Entry {
     pub sender: u8,
     pub typ: u8,
@@ -26,8 +28,8 @@ pub struct Entry {
     pub content: u32,
 }
 
-// A pool: its entries in order of arrival, unused places zero.
-#[derive(Clone, Copy)]
+// A pool: its entries in order of arrival, unused places zero. This form is one of the nine of docs/DECISIONS.md, "Forms".
+#[derive(Clone, Copy, Default, PartialEq, Eq)]
 pub struct Pool {
     pub entries: [Entry; MOST_ENTRIES],
     pub count: u8,
@@ -41,7 +43,8 @@ pub(crate) struct Taken {
 }
 
 // A subject at work. Mode 0 is asleep, 1 running, 2 ended properly, 3 ended improperly; closed has for each sender a mask of types.
-#[derive(Clone, Copy)]
+// The mode is a number, since any may be handed in and `is_valid` answers for each.
+#[derive(Clone, Copy, Default, PartialEq, Eq)]
 pub struct Subject {
     pub closed: [u32; MOST_SUBJECTS],
     pub mode: u8,
@@ -53,12 +56,13 @@ pub struct Subject {
 }
 
 // All subjects at work; those that the model does not have are all zero.
-#[derive(Clone, Copy)]
+#[derive(Clone, Copy, Default, PartialEq, Eq)]
 pub struct Config {
     pub subjects: [Subject; MOST_SUBJECTS],
 }
 
-// What a call answers beside the configuration.
+// What a call answers beside the configuration. An enum and no Result (docs/DECISIONS.md, "Forms"); a refusal is its number in docs/RULES.md, and
+// `refusal` takes any.
 #[derive(Clone, Copy)]
 pub enum Answer {
     Done,
@@ -72,19 +76,18 @@ pub enum Answer {
     Refused(u8),
 }
 
-// The configuration beside the answer. A refused step hands back the configuration that went in.
+// The configuration beside the answer. No Result: a refused step hands back the configuration that went in.
 #[derive(Clone, Copy)]
 pub struct Stepped {
     pub config: Config,
     pub answer: Answer,
 }
 
-// The yes/no for a pool, or the refusal.
+// Why a pool is not asked: the model is not valid, or there is no such subject.
 #[derive(Clone, Copy)]
-pub enum Share {
-    Yes,
-    No,
-    NotAsked(u8),
+pub enum NotAsked {
+    ModelNotValid,
+    NoSubject,
 }
 
 // What the controller is told to do. Exits and words belong to the commands that use them.
@@ -100,6 +103,25 @@ pub enum Command {
     Tick,
 }
 
+// The rule by which a command, a step or a tape is refused.
+#[derive(Clone, Copy)]
+pub(crate) enum Rule {
+    NoRoom,
+    ModelNotValid,
+    NoCode,
+    ConfigNotValid,
+    NotThere,
+    NotRunning,
+    WrongKind,
+    NoExit,
+    NoMessage,
+    PlaceMissing,
+    Improper,
+    NoTarget,
+    TooEarly,
+    CanDeliver,
+}
+
 // What a receiver answers to one who wants a place.
 #[derive(Clone, Copy)]
 pub enum Reply {
@@ -110,7 +132,7 @@ pub enum Reply {
 }
 
 // The sender's mask as it grows, and who answered what.
-#[derive(Clone, Copy)]
+#[derive(Clone, Copy, Default)]
 pub(crate) struct Places {
     pub mask: u16,
     pub placed: u16,
@@ -126,7 +148,8 @@ pub(crate) struct Reached {
     pub places: Places,
 }
 
-// What is decided of a command before anything changes: its refusal, where it leads, how many wait one more, whom it reaches.
+// What is decided of a command before anything changes: its refusal as the number that its line shows, where it leads, how many wait
+// one more, whom it reaches.
 #[derive(Clone, Copy)]
 pub(crate) struct Plan {
     pub number: u8,
@@ -135,7 +158,7 @@ pub(crate) struct Plan {
     pub reached: u16,
 }
 
-// A command as it stood on the tape: its code, the subject that its line shows, and the command.
+// A command as it stood on the tape: its code, which may be any byte, the subject that its line shows, and the command.
 #[derive(Clone, Copy)]
 pub(crate) struct Coded {
     pub code: u8,
@@ -143,8 +166,8 @@ pub(crate) struct Coded {
     pub command: Command,
 }
 
-// What is written of a command.
-#[derive(Clone, Copy)]
+// What is written of a command: four numbers.
+#[derive(Clone, Copy, Default)]
 pub struct Line {
     pub refusal: u8,
     pub state: u8,

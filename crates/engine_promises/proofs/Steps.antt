@@ -1,4 +1,5 @@
 -- What an accepted Take, Deliver, Expire, Cancel or Reserve does.
+use Rattle.std.specs.Prelude.{Option, Some, None}
 use mathlib.Core.Path.{◌≡◌, refl, sym, ap, ◌∙◌}
 use mathlib.Core.Bool.{Bool, true, false, not}
 use Prim.Native.Nat.{ℕ, zero, suc, ◌^◌, ◌≤◌, ◌<◌}
@@ -8,8 +9,6 @@ use borrow.Author.Tests.{not-false}
 use lib.ListN.{length}
 use Rattle.sets.specs.Below.{all_below}
 use Rattle.sets.specs.Masks.{bit, others}
-use Rattle.sets.specs.declared.Found.{Found}
-use Rattle.sets.specs.declared.Found.TheVariants.{At, Nothing}
 use Rattle.sets.proofs.Tests.{not_both, and_true, and_both}
 use Rattle.sets.proofs.Lists.{find_is}
 use Rattle.sets.proofs.Masks.{bits_none, mask_below}
@@ -49,7 +48,7 @@ state_below m c s v g l =
 -- ---- Take
 
 -- the place that was found is that of the earliest message that matches
-handed_at : (sender typ : ℕ) (p : Pool) (i : ℕ) → first_message sender typ (held p) ≡ At i
+handed_at : (sender typ : ℕ) (p : Pool) (i : ℕ) → first_message sender typ (held p) ≡ Some i
     → Handed sender typ (held p) (taken_at most_entries p i).content (held (taken_at most_entries p i).pool)
 unfolding first_message taken_at is_message
 handed_at sender typ p i h =
@@ -70,12 +69,12 @@ taking_hands : (here : State) (end : Bool) (c : Config) (s e : ℕ) → s < leng
 unfolding taking taking_at entered
 taking_hands here end c s e l = go (wanted_at here e (at c s)) refl
   where
-    go : (f : Found) → wanted_at here e (at c s) ≡ f → is_nothing f ≡ false
+    go : (f : Option ℕ) → wanted_at here e (at c s) ≡ f → is_nothing f ≡ false
         → Handed (exit_at here e).sender (exit_at here e).typ (held (at c s).pool) (at (taking_at f here end c s e) s).word (held (at (taking_at f here end c s e) s).pool)
-    go (At i) q _ =
+    go (Some i) q _ =
         rw (at_put_same c s (entered (exit_at here e).target end (with_word (taken_at most_entries (at c s).pool i).content (with_pool (taken_at most_entries (at c s).pool i).pool (at c s)))) l)
         (handed_at (exit_at here e).sender (exit_at here e).typ (at c s).pool i q)
-    go Nothing q n = not_both refl n
+    go None q n = not_both refl n
 
 module _ (m : Model) (c : Config) (s e : ℕ) where
   pub take_hands : Held c → refusal_of (stepped m c (Take s e)).answer ≡ 0

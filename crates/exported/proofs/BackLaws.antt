@@ -29,7 +29,7 @@ use Rattle.blocks.specs.Made.{two_bytes}
 use Rattle.exported.specs.Bytes.{word_bytes, config_size, entry_bytes, field_bytes, marks_bytes, entries_bytes, subject_bytes, config_bytes, short_of, word_of, entry_from, marks_from, entries_from, subject_from, config_from, flag_place, flags_right, is_config}
 use Rattle.exported.specs.Laws.{WrittenIsRead}
 use Rattle.sets.proofs.Stores.{length_each, each_same}
-use Rattle.exported.proofs.ByteLaws.{length_entry, length_marks, length_subject, length_config}
+use Rattle.exported.specs.Sizes.{length_entry, length_marks, length_subject, length_config}
 
 -- ---- numbers
 

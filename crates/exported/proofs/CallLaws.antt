@@ -1,4 +1,5 @@
 -- Laws of the calls: what the loader's verdict says of the model, and by which number a call is refused.
+use Rattle.std.specs.Prelude.{Ok, Err, is_err}
 use mathlib.Core.Path.{◌≡◌, refl, sym, ap, ◌∙◌}
 use mathlib.Core.Logic.{◌≢◌}
 use mathlib.Core.Bool.{Bool, true, false, ◌&&◌, not, cond}
@@ -10,10 +11,11 @@ use lib.Dec.{eqb, leb, ltb}
 use lib.ListN.{length}
 use Rattle.sets.proofs.Tests.{not_both, and_both}
 use Rattle.blocks.specs.Verdicts as verdicts
-use Rattle.blocks.specs.declared.Verdict.{Verdict}
-use Rattle.blocks.specs.declared.Verdict.TheVariants.{Good, Length, Check, Block, Record, Across}
+use Rattle.blocks.specs.Verdicts.{Verdict, no_fault}
+use Rattle.blocks.specs.declared.Fault.TheVariants.{Length, Check, Block, Record, Across}
 use Rattle.model.specs.Loading.{loaded, empty_model}
 use Rattle.model.specs.Valid.{valid}
+use Rattle.model.specs.declared.Loaded.{Loaded}
 use Rattle.model.specs.declared.Model.{Model}
 use Rattle.model_promises.proofs.Loads.{loads_valid, refused_empty}
 use Rattle.engine.specs.configs.Answers.{refusal_of}
@@ -37,18 +39,18 @@ use Rattle.sets.specs.Stores.{onto, stored}
 use Rattle.exported.specs.Bytes.{config_size, config_bytes, config_from, flags_right, is_config, model_size, model_bytes}
 use Rattle.exported.specs.Calls.{unless_refused, model_in, eight_of, loader_number, load_refusals, load_room, fresh_refusals, fresh_room, step_in, step_refusals, answer_bytes, step_room, step_values, run_in, run_refusals, run_room, run_lines, walk_refusals, walk_room}
 use Rattle.sets.proofs.Stores.{stored_same, stored_onto}
-use Rattle.exported.proofs.ByteLaws.{length_config, length_model}
+use Rattle.exported.specs.Sizes.{length_config, length_model}
 
 -- ---- loading
 
 -- only the good verdict has the number 0
-good_number : (v : Verdict) → verdicts.refusal_of v ≡ 0 → v ≡ Good
-good_number Good h = refl
-good_number Length h = absurd (omega (arith, h))
-good_number (Check b) h = absurd (omega (arith, h))
-good_number (Block b) h = absurd (omega (arith, h))
-good_number (Record b) h = absurd (omega (arith, h))
-good_number Across h = absurd (omega (arith, h))
+good_number : (v : Verdict) → verdicts.refusal_of v ≡ 0 → v ≡ no_fault
+good_number (Ok done) h = refl
+good_number (Err Length) h = absurd (omega (arith, h))
+good_number (Err (Check b)) h = absurd (omega (arith, h))
+good_number (Err (Block b)) h = absurd (omega (arith, h))
+good_number (Err (Record b)) h = absurd (omega (arith, h))
+good_number (Err Across) h = absurd (omega (arith, h))
 
 -- the empty model is not valid
 empty_not : valid empty_model ≡ false
@@ -72,6 +74,22 @@ valid_is file = go (eqb (verdicts.refusal_of (loaded file).verdict) 0) refl
     go : (b : Bool) → eqb (verdicts.refusal_of (loaded file).verdict) 0 ≡ b → eqb (verdicts.refusal_of (loaded file).verdict) 0 ≡ valid (model_in file)
     go true e = e ∙ sym (good_valid file (eqb-true _ 0 e))
     go false e = e ∙ sym (refused_not file (λ h. not_both (eq-eqb _ _ h) e))
+
+-- the loader refuses exactly where the model is not valid
+verdict_err : (v : Verdict) → is_err v ≡ not (eqb (verdicts.refusal_of v) 0)
+verdict_err (Ok done) = refl
+verdict_err (Err Length) = refl
+verdict_err (Err (Check b)) = refl
+verdict_err (Err (Block b)) = refl
+verdict_err (Err (Record b)) = refl
+verdict_err (Err Across) = refl
+
+pub err_is : (file : List ℕ) → is_err (loaded file).verdict ≡ not (valid (model_in file))
+err_is file = verdict_err (loaded file).verdict ∙ ap not (valid_is file)
+
+-- what the loader's verdict says, in the words of the code
+pub said_of : (file : List ℕ) (l : Loaded) (r b : Bool) → l ≡ loaded file → r ≡ is_err l.verdict → r ≡ b → is_err (loaded file).verdict ≡ b
+said_of file l r b e f h = ap (λ (x : Loaded). is_err x.verdict) (sym e) ∙ sym f ∙ h
 
 -- ---- refusals
 
@@ -174,43 +192,54 @@ module _ (file room : List ℕ) (n : ℕ) (number : n ≡ loader_number file) wh
 
 -- ---- fresh
 
-module _ (file config : List ℕ) (r : ℕ) (verdict : r ≡ verdicts.refusal_of (loaded file).verdict) where
-  judged : not (eqb r 0) ≡ not (valid (model_in file))
-  judged = ap (λ (k : ℕ). not (eqb k 0)) verdict ∙ ap not (valid_is file)
-
-  pub fresh_refused_lem : r ≢ 0 → (8 ≡ first_number (fresh_refusals file config)) × (config ≡ fresh_room file config)
+module _ (file config : List ℕ) where
+  pub fresh_refused_lem : is_err (loaded file).verdict ≡ true → (8 ≡ first_number (fresh_refusals file config)) × (config ≡ fresh_room file config)
   fresh_refused_lem h =
-      let e = number_here _ 8 ((ltb (length config) config_size, 6) ∷ []) (sym judged ∙ ap not (ne_eqb r 0 h)) in
+      let e = number_here _ 8 ((ltb (length config) config_size, 6) ∷ []) (sym (err_is file) ∙ h) in
       (sym e, buffer_kept _ 8 config _ e (λ z. absurd (omega (arith, z))))
 
-  fine : r ≡ 0 → first_number (fresh_refusals file config) ≡ first_number ((ltb (length config) config_size, 6) ∷ [])
-  fine h = number_after _ 8 _ (sym judged ∙ ap not (eq-eqb r 0 h))
+  fine : is_err (loaded file).verdict ≡ false → first_number (fresh_refusals file config) ≡ first_number ((ltb (length config) config_size, 6) ∷ [])
+  fine h = number_after _ 8 _ (sym (err_is file) ∙ h)
 
-  pub fresh_short : r ≡ 0 → length config < config_size → (6 ≡ first_number (fresh_refusals file config)) × (config ≡ fresh_room file config)
+  pub fresh_short : is_err (loaded file).verdict ≡ false → length config < config_size → (6 ≡ first_number (fresh_refusals file config)) × (config ≡ fresh_room file config)
   fresh_short h l =
       let e = fine h ∙ number_here _ 6 [] (lt-ltb _ _ l) in
       (sym e, buffer_kept _ 6 config _ e (λ z. absurd (omega (arith, z))))
 
-  pub fresh_done : r ≡ 0 → config_size ≤ length config → (s : Stepped) (now : List ℕ) → s ≡ fresh_of (model_in file) → now ≡ stored config 0 (config_bytes s.config)
-      → (0 ≡ first_number (fresh_refusals file config)) × (now ≡ fresh_room file config)
+  pub fresh_done : is_err (loaded file).verdict ≡ false → config_size ≤ length config → (s : Stepped) (now : List ℕ) → s ≡ fresh_of (model_in file)
+      → now ≡ stored config 0 (config_bytes s.config) → (0 ≡ first_number (fresh_refusals file config)) × (now ≡ fresh_room file config)
   fresh_done h l s now k p =
       let e = fine h ∙ number_after _ 6 [] (le-ltb _ _ l) ∙ number_none in
       (sym e, buffer_onto _ config (config_bytes (fresh_of (model_in file)).config) now e (omega (arith, length_config (fresh_of (model_in file)).config)) (stored_same config now _ _ 0 p (ap (λ (x : Stepped). config_bytes x.config) k)))
 
 -- a file that loads, and a buffer that is too short: 6, and the buffer stays
-pub short_number : (file config : List ℕ) → verdicts.refusal_of (loaded file).verdict ≡ 0 → length config < config_size → 6 ≡ first_number (fresh_refusals file config)
-short_number file config h l = (fresh_short file config _ refl h l).0
+pub short_number : (file config : List ℕ) → is_err (loaded file).verdict ≡ false → length config < config_size → 6 ≡ first_number (fresh_refusals file config)
+short_number file config h l = (fresh_short file config h l).0
 
-pub short_stays : (file config : List ℕ) → verdicts.refusal_of (loaded file).verdict ≡ 0 → length config < config_size → config ≡ fresh_room file config
-short_stays file config h l = (fresh_short file config _ refl h l).1
+pub short_stays : (file config : List ℕ) → is_err (loaded file).verdict ≡ false → length config < config_size → config ≡ fresh_room file config
+short_stays file config h l = (fresh_short file config h l).1
 
 -- ---- 8, 9 and 10
 
--- what the code's first test says, in the words of the definition
-pub first_is : (file config : List ℕ) (r n : ℕ) (code code' right : Bool) → r ≡ verdicts.refusal_of (loaded file).verdict → code ≡ code'
-    → right ≡ is_config config → n ≡ first_number ((not (eqb r 0), 8) ∷ (not code, 9) ∷ (not right, 10) ∷ [])
-    → n ≡ first_number ((not (valid (model_in file)), 8) ∷ (not code', 9) ∷ (not (is_config config), 10) ∷ [])
-first_is file config r n code code' right e g f h = h ∙ rw (judged file config r e, g, f)
+module _ (file : List ℕ) (code right : Bool) where
+  -- the refusals that are judged first, by what the loader says
+  abbrev first_rules : List (Bool × ℕ)
+  first_rules = (not (valid (model_in file)), 8) ∷ (not code, 9) ∷ (not right, 10) ∷ []
+
+  pub ready_8 : is_err (loaded file).verdict ≡ true → (8 ≡ first_number first_rules) × ◌≢◌ {A = ℕ} 8 0
+  ready_8 h = (sym (number_here _ 8 _ (sym (err_is file) ∙ h)), λ z. absurd (omega (arith, z)))
+
+  pub ready_9 : is_err (loaded file).verdict ≡ false → code ≡ false → (9 ≡ first_number first_rules) × ◌≢◌ {A = ℕ} 9 0
+  ready_9 h k = (sym (number_after _ 8 _ (sym (err_is file) ∙ h) ∙ number_here _ 9 _ (ap not k)), λ z. absurd (omega (arith, z)))
+
+  pub ready_10 : is_err (loaded file).verdict ≡ false → code ≡ true → right ≡ false → (10 ≡ first_number first_rules) × ◌≢◌ {A = ℕ} 10 0
+  ready_10 h k r = (
+    sym (number_after _ 8 _ (sym (err_is file) ∙ h) ∙ number_after _ 9 _ (ap not k) ∙ number_here _ 10 [] (ap not r)),
+    λ z. absurd (omega (arith, z)),
+  )
+
+  pub ready_none : is_err (loaded file).verdict ≡ false → code ≡ true → right ≡ true → first_number first_rules ≡ 0
+  ready_none h k r = number_after _ 8 _ (sym (err_is file) ∙ h) ∙ number_after _ 9 _ (ap not k) ∙ number_after _ 10 [] (ap not r) ∙ number_none
 
 -- a configuration's bytes are long enough
 pub config_room : (config : List ℕ) → is_config config ≡ true → config_size ≤ length config

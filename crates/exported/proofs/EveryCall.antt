@@ -1,6 +1,7 @@
 -- Every exported call answers with one of its numbers, and refused it changes nothing.
+use Rattle.std.specs.Prelude.{Ok, Err, Result}
 use mathlib.Core.Path.{◌≡◌, refl, sym}
-use mathlib.Core.Bool.{true, not}
+use mathlib.Core.Bool.{Bool, true, false, not}
 use mathlib.Core.List.{List, [], ◌∷◌}
 use Prim.Native.Nat.{ℕ, zero, suc, ◌/◌, ◌%◌, ◌<◌}
 use native.Mathlib.Omega.{arith}
@@ -9,14 +10,14 @@ use lib.ListN.{length}
 use Rattle.sets.specs.Lists.{all_of, is_one_of}
 use Rattle.sets.proofs.Tests.{choose}
 use Rattle.blocks.specs.Verdicts as verdicts
-use Rattle.blocks.specs.declared.Verdict.{Verdict}
-use Rattle.blocks.specs.declared.Verdict.TheVariants.{Good, Length, Check, Block, Record, Across}
+use Rattle.blocks.specs.Verdicts.{Verdict, no_fault}
+use Rattle.blocks.specs.declared.Fault.TheVariants.{Length, Check, Block, Record, Across}
 use Rattle.model.specs.Loading.{loaded}
 use Rattle.model.specs.Valid.{valid}
 use Rattle.model.specs.declared.Model.{Model}
 use Rattle.engine.specs.pools.Sizes.{most_entries}
 use Rattle.engine.specs.configs.Shares.{shared_out, share_of}
-use Rattle.engine.specs.declared.Share.{Share}
+use Rattle.engine.specs.declared.NotAsked.{NotAsked}
 use Rattle.engine.specs.commands.Codes.{command_in}
 use Rattle.engine.specs.commands.Rules.{first_number}
 use Rattle.engine.proofs.RuleLaws.{number_in_lem, own_numbers, own_numbers_lem}
@@ -29,12 +30,12 @@ use Rattle.exported.proofs.WriteLaws.{write_answer, write_few, write_refused_lem
 
 -- every verdict has a number from 0 to 5
 verdict_number : (v : Verdict) → verdicts.refusal_of v < 6
-verdict_number Good = omega arith
-verdict_number Length = omega arith
-verdict_number (Check b) = omega arith
-verdict_number (Block b) = omega arith
-verdict_number (Record b) = omega arith
-verdict_number Across = omega arith
+verdict_number (Ok done) = omega arith
+verdict_number (Err Length) = omega arith
+verdict_number (Err (Check b)) = omega arith
+verdict_number (Err (Block b)) = omega arith
+verdict_number (Err (Record b)) = omega arith
+verdict_number (Err Across) = omega arith
 
 below_7 : (n : ℕ) → n < 7 → is_one_of (0 ∷ 1 ∷ 2 ∷ 3 ∷ 4 ∷ 5 ∷ 6 ∷ []) n ≡ true
 unfolding is_one_of
@@ -85,8 +86,12 @@ step_number file config command values =
 shared_number : (m : Model) (owner : ℕ) → is_one_of (0 ∷ 1 ∷ 8 ∷ 11 ∷ []) (share_number (share_of most_entries m owner)) ≡ true
 unfolding share_of is_one_of
 shared_number m owner =
-    let P : Share → Type 0 = λ x. is_one_of (0 ∷ 1 ∷ 8 ∷ 11 ∷ []) (share_number x) ≡ true in
-    choose P (valid m) (λ _. choose P (ltb owner m.n) (λ _. choose P (shared_out most_entries m owner) (λ _. refl) (λ _. refl)) (λ _. refl)) (λ _. refl)
+    let P : Result Bool NotAsked → Type 0 = λ x. is_one_of (0 ∷ 1 ∷ 8 ∷ 11 ∷ []) (share_number x) ≡ true in
+    choose P (valid m) (λ _. choose P (ltb owner m.n) (λ _. yes (shared_out most_entries m owner)) (λ _. refl)) (λ _. refl)
+  where
+    yes : (b : Bool) → is_one_of (0 ∷ 1 ∷ 8 ∷ 11 ∷ []) (share_number (Ok b)) ≡ true
+    yes true = refl
+    yes false = refl
 
 -- every exported call answers, for every input
 pub every_exported_call_answers : EveryExportedCallAnswers

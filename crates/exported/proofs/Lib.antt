@@ -3,6 +3,7 @@ pub mod ByteLaws
 pub mod CallLaws
 pub mod EveryCall
 pub mod LoadLaws
+pub mod Made
 pub mod WriteLaws
 pub mod ModelBack
 pub mod ModelLaws

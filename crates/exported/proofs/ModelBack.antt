@@ -33,13 +33,13 @@ use Rattle.model.specs.Writing.{written_as, buffer_of}
 use Rattle.model_promises.specs.Loads.{AreBytes, LoadsTo}
 use Rattle.model_promises.proofs.Loads.{loads_valid, loads_held}
 use Rattle.model_promises.proofs.Writes.{writes_exactly}
-use Rattle.exported.specs.Bytes.{short_of, model_size, row_bytes, own_bytes, exit_bytes, head_bytes, state_bytes, model_bytes, row_from, own_from, state_in, exits_in, head_from, stored_from, exit_line, model_from, is_model}
+use Rattle.exported.specs.Bytes.{short_of, model_size, row_bytes, own_bytes, exit_bytes, head_bytes, state_bytes, model_bytes, row_from, own_from, state_in, exits_in, head_from, stored_from, exit_in, exit_line, model_from, is_model}
 use Rattle.exported.specs.Calls.{model_in}
 use Rattle.exported.specs.Laws.{ModelWrittenIsRead, FileWrittenBack}
 use Rattle.exported.proofs.BackLaws.{short_back, drop_each, each_byte, rest_bytes, short_parts, three, pieces}
 use Rattle.exported.proofs.ModelLaws.{IsState, IsModel, is_model_lem, model_is}
 use Rattle.exported.proofs.WriteLaws.{number_of, write_number_lem, write_room_lem}
-use Rattle.exported.proofs.ByteLaws.{length_own, length_state, length_model}
+use Rattle.exported.specs.Sizes.{length_own, length_state, length_model}
 
 -- ---- the parts of a model's bytes
 
@@ -112,6 +112,15 @@ exit_byte st tail x f l h =
     ∙ get_or-append-add (head_bytes st) (each_of exits 8) (3 * x + f) 0
     ∙ each_byte exits 3 8 x f (λ k. refl) l h
 
+-- exit x
+exit_back : (st : State) (tail : List ℕ) (x : ℕ) → x < 8 → exit_in (state_bytes st ++ tail) x ≡ exit_at st x
+exit_back st tail x l =
+    let first : 10 + 3 * x ≡ 10 + 3 * x + 0 = omega arith in
+    let target = ap (λ (k : ℕ). get_or (state_bytes st ++ tail) k 0) first ∙ exit_byte st tail x 0 l (omega arith) in
+    let sender = exit_byte st tail x 1 l (omega arith) in
+    let typ = exit_byte st tail x 2 l (omega arith) in
+    λ i. record { target = target i; sender = sender i; typ = typ i }
+
 -- a blank exit is three zeros
 blank_bytes : (f : ℕ) → get_or (exit_bytes blank_exit) f 0 ≡ 0
 blank_bytes zero = refl
@@ -166,23 +175,21 @@ module _ (m : Model) (good : GoodModel m) where
       let first = (λ i. cond (eqb (kind_is p l i) 0) 0 (before_are p (omega arith) i)) ∙ first_back p l in
       (λ i. head_from (r.1 i) (first i)) ∙ head_back (stored_at m p) _ r.0
 
-  -- byte f of every exit, where the model has it in the list l
-  exits_back : (f : ℕ) → f < 3 → (l : List ℕ) → length l ≡ 1024
-      → ((j : ℕ) → get_or (exit_bytes (exit_no m.targets m.senders m.types j)) f 0 ≡ get_or l j 0) → exit_line (model_bytes m) f ≡ l
+  -- every exit
+  exits_back : Held m → exit_line (model_bytes m) ≡ m.exits
   unfolding exit_line
-  exits_back f small l long is =
+  exits_back held =
       let all = before_are 512 (omega arith) in
-      line_of _ _ 512 1024 l long (omega (arith, good.exits))
+      line_of blank_exit _ _ 512 1024 m.exits held.exits (omega (arith, good.exits))
       (λ p x k h.
       let r = state_part m p k in
       let few = (good.state p k).small.exits in
       let some : x < exits_of m p = rw (exits_are p k) at h in
-      ap (λ (b : List ℕ). get_or b (10 + 3 * x + f) 0) r.1
-      ∙ exit_byte (state_at m p) r.0 x f (omega arith) small
-      ∙ ap (λ (e : Exit). get_or (exit_bytes e) f 0) (exit_is m good p x k some)
-      ∙ is (place_in (exits_of m) p x)
-      ∙ ap (λ (n : ℕ). get_or l (n + x) 0) (sym (before_are p (omega arith))))
-      (λ j h. sym (is j) ∙ ap (λ (e : Exit). get_or (exit_bytes e) f 0) (good.no_more j (omega arith)) ∙ blank_bytes f)
+      ap (λ (b : List ℕ). exit_in b x) r.1
+      ∙ exit_back (state_at m p) r.0 x (omega arith)
+      ∙ exit_is m good p x k some
+      ∙ ap (λ (n : ℕ). exit_no m.exits (n + x)) (sym (before_are p (omega arith))))
+      (λ j h. good.no_more j (omega arith))
 
   -- the model
   model_back : Held m → model_from (model_bytes m) ≡ m
@@ -193,10 +200,8 @@ module _ (m : Model) (good : GoodModel m) where
       let subjects = table_of (λ s. own_from (drop (3 + 27 * s) (model_bytes m))) 16 no_subject m.subjects held.subjects
       (λ s l. let r = own_part m s l in ap own_from r.1 ∙ own_back (subject_at m s) r.0 (held.rows s l)) in
       let states = table_of (stored_from (model_bytes m)) 512 blank_stored m.states held.states stored_back in
-      let targets = exits_back 0 (omega arith) m.targets held.targets (λ j. refl) in
-      let senders = exits_back 1 (omega arith) m.senders held.senders (λ j. refl) in
-      let types = exits_back 2 (omega arith) m.types held.types (λ j. refl) in
-      λ i. record { n = n i; start = start i; subjects = subjects i; states = states i; targets = targets i; senders = senders i; types = types i }
+      let exits = exits_back held in
+      λ i. record { n = n i; start = start i; subjects = subjects i; states = states i; exits = exits i }
 
   -- ---- its bytes are a model's
 
@@ -268,19 +273,17 @@ head_same d first es h l =
     (λ i. get_or d 0 0 ∷ get_or d 1 0 ∷ get_or d 2 0 ∷ get_or d 3 0 ∷ a.0 i ∷ a.1 i ∷ get_or d 6 0 ∷ get_or d 7 0 ∷ r.0 i ∷ r.1 i ∷ [])
     ∙ sym (part_table 10 0 d 0 l)
 
--- exit x of a state, in its bytes
-abbrev exit_in : List ℕ → ℕ → Exit
-exit_in d x = record { target = get_or d (10 + 3 * x + 0) 0; sender = get_or d (10 + 3 * x + 1) 0; typ = get_or d (10 + 3 * x + 2) 0 }
-
 exit_same : (d : List ℕ) (x : ℕ) → x < 8 → 34 ≤ length d → exit_bytes (exit_in d x) ≡ take 3 (drop (3 * x) (drop 10 d))
 unfolding table_from
-exit_same d x l h = sym (part_table 3 (10 + 3 * x) d 0 (omega arith)) ∙ ap (take 3) (sym (drop-drop (3 * x) 10 d))
+exit_same d x l h =
+    let first : 10 + 3 * x ≡ 10 + 3 * x + 0 = omega arith in
+    ap (λ (k : ℕ). get_or d k 0 ∷ get_or d (10 + 3 * x + 1) 0 ∷ get_or d (10 + 3 * x + 2) 0 ∷ []) first ∙ sym (part_table 3 (10 + 3 * x) d 0 (omega arith)) ∙ ap (take 3) (sym (drop-drop (3 * x) 10 d))
 
 -- exit x of a state that a model keeps
-unpacked_exit : (targets senders types : List ℕ) (st : Stored) (x : ℕ) → x < 8
-    → exit_at (unpacked targets senders types st) x ≡ cond (ltb x st.exits) (exit_no targets senders types (st.first + x)) blank_exit
+unpacked_exit : (exits : List Exit) (st : Stored) (x : ℕ) → x < 8
+    → exit_at (unpacked exits st) x ≡ cond (ltb x st.exits) (exit_no exits (st.first + x)) blank_exit
 unfolding with_exits model_valid.exits_from
-unpacked_exit targets senders types st x l = in_places_at 8 blank_exit st.exits _ x blank_exit l
+unpacked_exit exits st x l = in_places_at 8 blank_exit st.exits _ x blank_exit l
 
 -- a state with an exit has a kind
 kind_where : (kind exits : ℕ) → (not (eqb kind 0) || eqb exits 0) ≡ true → 0 < exits → eqb kind 0 ≡ false
@@ -295,13 +298,13 @@ module _ (b : List ℕ) (are : AreBytes b) (ok : IsModel b) where
   state_long : (p : ℕ) → p < 512 → 34 ≤ length (state_in b p)
   state_long p l = let all = ok.long in omega (arith, length-drop (435 + 34 * p) b)
 
-  -- byte f of an exit that a state has is in the line; past the last there are zeros
-  line_byte : (f p x : ℕ) → p < 512 → x < exits_in b p → get_or (exit_line b f) (place_in (exits_in b) p x) 0 ≡ get_or (state_in b p) (10 + 3 * x + f) 0
+  -- an exit that a state has is in the line; past the last there are zeros
+  line_exit : (p x : ℕ) → p < 512 → x < exits_in b p → exit_no (exit_line b) (place_in (exits_in b) p x) ≡ exit_in (state_in b p) x
   unfolding exit_line
-  line_byte f p x l h =
-      let byte : ℕ → ℕ → ℕ = λ q y. get_or (state_in b q) (10 + 3 * y + f) 0 in
-      padded_at 1024 0 (lined (exits_in b) byte 512) (place_in (exits_in b) p x) 0 (omega (arith, length_lined (exits_in b) byte 512, sum_has (exits_in b) p 512 l))
-      ∙ lined_at (exits_in b) byte 512 p x 0 l h
+  line_exit p x l h =
+      let item : ℕ → ℕ → Exit = λ q y. exit_in (state_in b q) y in
+      padded_at 1024 blank_exit (lined (exits_in b) item 512) (place_in (exits_in b) p x) blank_exit (omega (arith, length_lined (exits_in b) item 512, sum_has (exits_in b) p 512 l))
+      ∙ lined_at (exits_in b) item 512 p x blank_exit l h
 
   past_zero : (f p x : ℕ) → f < 3 → p < 512 → x < 8 → exits_in b p ≤ x → get_or (state_in b p) (10 + 3 * x + f) 0 ≡ 0
   past_zero f p x small l k h =
@@ -316,27 +319,25 @@ module _ (b : List ℕ) (are : AreBytes b) (ok : IsModel b) where
       ∙ zero_at _ (ok.states p l).blank j
 
   -- the state at place p of the model
-  state_read : (p : ℕ) → p < 512 → state_at (model_from b) p ≡ unpacked (exit_line b 0) (exit_line b 1) (exit_line b 2) (stored_from b p)
+  state_read : (p : ℕ) → p < 512 → state_at (model_from b) p ≡ unpacked (exit_line b) (stored_from b p)
   unfolding model_from
-  state_read p l = ap (unpacked (exit_line b 0) (exit_line b 1) (exit_line b 2)) (table_at (stored_from b) 512 p blank_stored l)
+  state_read p l = ap (unpacked (exit_line b)) (table_at (stored_from b) 512 p blank_stored l)
 
   -- its exits
-  exit_read : (p x : ℕ) → p < 512 → x < 8 → exit_at (unpacked (exit_line b 0) (exit_line b 1) (exit_line b 2) (stored_from b p)) x ≡ exit_in (state_in b p) x
+  exit_read : (p x : ℕ) → p < 512 → x < 8 → exit_at (unpacked (exit_line b) (stored_from b p)) x ≡ exit_in (state_in b p) x
   unfolding stored_from head_from
-  exit_read p x l k = unpacked_exit _ _ _ (stored_from b p) x k ∙ go (ltb x (exits_in b p)) refl
+  exit_read p x l k = unpacked_exit _ (stored_from b p) x k ∙ go (ltb x (exits_in b p)) refl
     where
       go : (t : Bool) → ltb x (exits_in b p) ≡ t
-          → cond (ltb x (exits_in b p)) (exit_no (exit_line b 0) (exit_line b 1) (exit_line b 2) ((stored_from b p).first + x)) blank_exit ≡ exit_in (state_in b p) x
+          → cond (ltb x (exits_in b p)) (exit_no (exit_line b) ((stored_from b p).first + x)) blank_exit ≡ exit_in (state_in b p) x
       go true e =
           let h = ltb-true x (exits_in b p) e in
           let kind = kind_where (get_or (state_in b p) 0 0) (exits_in b p) (ok.states p l).kind (omega arith) in
-          let target = line_byte 0 p x l h in
-          let sender = line_byte 1 p x l h in
-          let typ = line_byte 2 p x l h in
-          rw (e, kind) (λ i. record { target = target i; sender = sender i; typ = typ i })
+          rw (e, kind) (line_exit p x l h)
       go false e =
           let h = ltb-false x (exits_in b p) e in
-          let target = past_zero 0 p x (omega arith) l k h in
+          let first : 10 + 3 * x ≡ 10 + 3 * x + 0 = omega arith in
+          let target = ap (λ (i : ℕ). get_or (state_in b p) i 0) first ∙ past_zero 0 p x (omega arith) l k h in
           let sender = past_zero 1 p x (omega arith) l k h in
           let typ = past_zero 2 p x (omega arith) l k h in
           rw e (sym (λ i. record { target = target i; sender = sender i; typ = typ i }))
@@ -347,7 +348,7 @@ module _ (b : List ℕ) (are : AreBytes b) (ok : IsModel b) where
   state_same p l =
       let d = state_in b p in
       let long = state_long p l in
-      let own = model_valid.exits_from (exit_line b 0) (exit_line b 1) (exit_line b 2) (stored_from b p) in
+      let own = model_valid.exits_from (exit_line b) (stored_from b p) in
       let head = head_same d (stored_from b p).first own (rest_bytes b (435 + 34 * p) are) (omega arith) in
       let exits =
       each_same _ (λ x. take 3 (drop (3 * x) (drop 10 d))) 8 (λ x k. ap exit_bytes (exit_read p x l k) ∙ exit_same d x k long) ∙ pieces 3 8 (drop 10 d) in

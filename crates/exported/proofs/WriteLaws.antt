@@ -1,5 +1,6 @@
 -- Laws of writing a model that comes as its bytes: the answer as a number and the buffer, by what `write` says.
-use mathlib.Core.Path.{◌≡◌, refl, ap}
+use Rattle.std.specs.Prelude.{Result, Ok, Err}
+use mathlib.Core.Path.{◌≡◌, refl, ap, ◌∙◌}
 use mathlib.Core.Bool.{Bool, true, false}
 use mathlib.Core.Logic.{◌≢◌}
 use mathlib.Core.List.{List, [], ◌∷◌}
@@ -11,8 +12,9 @@ use Rattle.sets.specs.Lists.{is_one_of}
 use Rattle.model.specs.File.{file_of}
 use Rattle.model.specs.Valid.{valid}
 use Rattle.model.specs.Writing.{written_as, buffer_of}
-use Rattle.model.specs.declared.Written.{Written}
-use Rattle.model.specs.declared.Written.TheVariants.{Bytes, NotValid, TooShort}
+use Rattle.model.specs.declared.Model.{Model}
+use Rattle.model.specs.declared.Unwritten.{Unwritten}
+use Rattle.model.specs.declared.Unwritten.TheVariants.{NotValid, TooShort}
 use Rattle.model.proofs.Facts.{model_good}
 use Rattle.model.proofs.FileLaws.{file_length}
 use Rattle.model.proofs.Lines.{fits}
@@ -21,10 +23,10 @@ use Rattle.exported.specs.Bytes.{model_from, is_model}
 use Rattle.exported.specs.Calls.{unless_refused, write_number, write_room}
 
 -- the number of an answer: the refusal, or 256 times the length
-abbrev pub number_of : Written → ℕ
-number_of (Bytes length) = 256 * length
-number_of NotValid = 8
-number_of TooShort = 6
+abbrev pub number_of : Result ℕ Unwritten → ℕ
+number_of (Ok length) = 256 * length
+number_of (Err NotValid) = 8
+number_of (Err TooShort) = 6
 
 -- bytes that are no model's
 pub no_model : (b room : List ℕ) → is_model b ≡ false → (8 ≡ write_number b room) × (room ≡ write_room b room)
@@ -51,6 +53,14 @@ module _ (b room : List ℕ) (ok : is_model b ≡ true) where
       go false e s f = rw (ok, e)
       go true e true f = rw (ok, e, f)
       go true e false f = rw (ok, e, f)
+
+-- what is written of the model in the bytes, as a number and as a buffer
+pub write_gives : (b room : List ℕ) → is_model b ≡ true → (m : Model) → m ≡ model_from b → (answer : Result ℕ Unwritten) → answer ≡ written_as m (length room)
+    → (new : List ℕ) → new ≡ buffer_of m room → (number_of answer ≡ write_number b room) × (new ≡ write_room b room)
+write_gives b room ok m e answer f new g = (
+  ap number_of (f ∙ ap (λ (x : Model). written_as x (length room)) e) ∙ write_number_lem b room ok,
+  g ∙ ap (λ (x : Model). buffer_of x room) e ∙ write_room_lem b room ok,
+)
 
 -- the three answers: 8 and 6, which leave the buffer, and the length
 data Answers (b room : List ℕ) : Type 0 where

@@ -7,6 +7,7 @@ use Rattle.sets.specs.Stores.{each_of}
 use Rattle.sets.specs.Tests.{all_zero}
 use Rattle.blocks.specs.Made.{two_bytes}
 use Rattle.model.specs.Sizes.{most_subjects, most_rows, most_exits, most_exits_in_all, state_places}
+use Rattle.model.specs.Records.{blank_exit}
 use Rattle.model.specs.Valid.{subject_at, state_at, exit_at, row_at}
 use Rattle.model.specs.declared.Exit.{Exit}
 use Rattle.model.specs.declared.Model.{Model}
@@ -131,6 +132,9 @@ model_bytes m =
 abbrev pub row_from : List ℕ → Row
 row_from b = record { sender = get_or b 0 0; typ = get_or b 1 0; limit = get_or b 2 0 }
 
+abbrev pub exit_from : List ℕ → Exit
+exit_from b = record { target = get_or b 0 0; sender = get_or b 1 0; typ = get_or b 2 0 }
+
 unfoldable pub own_from : List ℕ → model_subject.Subject
 own_from b =
     record {
@@ -166,9 +170,13 @@ head_from b first =
 unfoldable pub stored_from : List ℕ → ℕ → Stored
 stored_from b p = head_from (state_in b p) (cond (eqb (get_or (state_in b p) 0 0) 0) 0 (sum_below (exits_in b) p))
 
--- byte f of every exit, in the order of their states
-unfoldable pub exit_line : List ℕ → ℕ → List ℕ
-exit_line b f = padded most_exits_in_all 0 (lined (exits_in b) (λ p x. get_or (state_in b p) (10 + 3 * x + f) 0) state_places)
+-- exit x of a state, in its bytes
+abbrev pub exit_in : List ℕ → ℕ → Exit
+exit_in b x = record { target = get_or b (10 + 3 * x) 0; sender = get_or b (10 + 3 * x + 1) 0; typ = get_or b (10 + 3 * x + 2) 0 }
+
+-- every exit, in the order of their states
+unfoldable pub exit_line : List ℕ → List Exit
+exit_line b = padded most_exits_in_all blank_exit (lined (exits_in b) (λ p x. exit_in (state_in b p) x) state_places)
 
 unfoldable pub model_from : List ℕ → Model
 model_from b =
@@ -177,9 +185,7 @@ model_from b =
       start = short_of (drop 1 b);
       subjects = table (λ s. own_from (drop (3 + 27 * s) b)) most_subjects;
       states = table (stored_from b) state_places;
-      targets = exit_line b 0;
-      senders = exit_line b 1;
-      types = exit_line b 2;
+      exits = exit_line b;
     }
 
 -- the bytes of a state: at most 8 exits, none where it has no kind, and nothing but zeros behind its own

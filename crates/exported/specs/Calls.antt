@@ -1,7 +1,7 @@
 -- What the calls from other languages give. A model comes as its file; a configuration as its bytes. Of each call the
 -- refusals stand in a list, each with its number, in the order in which they are judged: the first that holds is given, and
 -- no byte of any buffer changes. Where none holds the answer is 0.
-use Rattle.std.specs.Prelude.{Bool, not, cond, List, [], ◌∷◌, ◌++◌, ℕ, ◌+◌, ◌*◌, ◌/◌, eqb, ltb, get_or, length}
+use Rattle.std.specs.Prelude.{Bool, not, cond, List, [], ◌∷◌, ◌++◌, ℕ, ◌+◌, ◌*◌, ◌/◌, eqb, ltb, get_or, length, Result, Ok, Err}
 use Rattle.sets.specs.Below.{table}
 use Rattle.blocks.specs.Verdicts as verdicts
 use Rattle.model.specs.File.{file_of}
@@ -14,8 +14,8 @@ use Rattle.engine.specs.configs.Subjects.{here_of}
 use Rattle.engine.specs.configs.Valid.{config_valid}
 use Rattle.engine.specs.declared.Answer.{Answer}
 use Rattle.engine.specs.declared.Config.{Config}
-use Rattle.engine.specs.declared.Share.{Share}
-use Rattle.engine.specs.declared.Share.TheVariants.{Yes, No, NotAsked}
+use Rattle.engine.specs.declared.NotAsked.{NotAsked}
+use Rattle.engine.specs.configs.Answers.{share_refusal}
 use Rattle.engine.specs.declared.Stepped.{Stepped}
 use Rattle.engine.specs.commands.Codes.{subject_of, is_code, code_in, command_in}
 use Rattle.engine.specs.commands.Rules.{rules, first_number}
@@ -148,7 +148,6 @@ walk_room file config tape =
 -- ---- the yes/no for a pool
 
 -- yes is 1, no is 0; a refusal its number
-abbrev pub share_number : Share → ℕ
-share_number Yes = 1
-share_number No = 0
-share_number (NotAsked number) = number
+abbrev pub share_number : Result Bool NotAsked → ℕ
+share_number (Ok shared) = cond shared 1 0
+share_number (Err why) = share_refusal (Err why)

@@ -1,7 +1,7 @@
 -- What is promised of configurations and models as bytes: what was written is read back, and what is read is written the same.
 use Rattle.std.specs.Prelude.{◌≡◌, true, List, ℕ, ◌*◌, ◌≤◌, length, take}
 use Rattle.sets.specs.Stores.{onto}
-use Rattle.blocks.specs.declared.Verdict.TheVariants.{Good}
+use Rattle.blocks.specs.Verdicts.{no_fault}
 use Rattle.model.specs.Loading.{loaded}
 use Rattle.model.specs.Valid as model_valid
 use Rattle.model.specs.declared.Model.{Model}
@@ -32,5 +32,5 @@ pub record ModelWrittenIsRead : Type 0 where
 -- a file of bytes that loads, written from the bytes of its model, is the same file
 abbrev pub FileWrittenBack : Type 0
 FileWrittenBack =
-    (file room : List ℕ) → AreBytes file → (loaded file).verdict ≡ Good → length file ≤ length room
+    (file room : List ℕ) → AreBytes file → (loaded file).verdict ≡ no_fault → length file ≤ length room
     → (write_number (model_bytes (model_in file)) room ≡ 256 * length file) × (write_room (model_bytes (model_in file)) room ≡ onto file room)

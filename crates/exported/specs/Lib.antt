@@ -2,3 +2,4 @@ pub mod Bytes
 pub mod Calls
 pub mod Laws
 pub mod Answers
+pub mod Sizes

@@ -1,21 +1,23 @@
 // The engine for programs in other languages: a model as its file or its 17,843 bytes, a configuration as 2,992 bytes, numbers low byte first.
-// Nothing is assumed of the bytes. A call that is refused changes no byte of any buffer.
+// Nothing is assumed of the bytes. A call that is refused changes no byte of any buffer. Refusals are numbers here, as C takes them.
 #![tactic(auto)]
 
-ghost use Rattle.std.specs.Prelude.{◌≡◌, not, [], ◌∷◌, eqb};
+ghost use Rattle.std.specs.Prelude.{◌≡◌, ◌≢◌, not, [], ◌∷◌, eqb, IfOk, IfErr};
+ghost use Rattle.model.specs.Valid.{valid};
 ghost use Rattle.engine.specs.pools.Sizes.{most_entries};
 ghost use Rattle.engine.specs.configs.Shares.{share_of};
 ghost use Rattle.engine.specs.commands.Rules.{first_number};
 ghost use Rattle.engine.specs.Tapes.{commands, config_after};
+ghost use Rattle.exported.specs.Bytes.{config_from, is_config};
 ghost use Rattle.exported.specs.Calls.{model_in, load_refusals, load_room, write_number, write_room, fresh_refusals, fresh_room, step_refusals, step_room, step_values, run_refusals, run_room, run_lines, walk_refusals, walk_room, share_number};
 
+mod bytes;
 mod config_bytes;
 mod model_bytes;
 mod model_from;
-mod numbers;
 
-use engine::{Config, Share};
-use model::{Model, Written};
+use engine::{Config, NotAsked};
+use model::{Model, Unwritten};
 
 // Loads a file: the refusal and 256 times the block. The model goes to the buffer.
 #[unsafe(no_mangle)]
@@ -32,8 +34,7 @@ pub extern "C" fn zs_load(file: &[u8], room: &mut [u8]) -> u16
     if room.len() < model_bytes::MODEL {
         return 6;
     }
-    let m = loaded.model;
-    model_bytes::put_model(m, room);
+    model_bytes::put_model(&loaded.model, room);
     0
 }
 
@@ -46,12 +47,10 @@ pub extern "C" fn zs_write(model: &[u8], room: &mut [u8]) -> u32
     if !model_from::is_model(model) {
         return 8;
     }
-    let m = model_from::model_from(model);
-    let written = model::write(m, room);
-    match written {
-        Written::Bytes(length) => 256 * (length as u32),
-        Written::NotValid => 8,
-        Written::TooShort => 6,
+    match model::write(model_from::model_from(model), room) {
+        Ok(length) => 256 * (length as u32),
+        Err(Unwritten::NotValid) => 8,
+        Err(Unwritten::TooShort) => 6,
     }
 }
 
@@ -63,34 +62,34 @@ pub extern "C" fn zs_fresh(file: &[u8], config: &mut [u8]) -> u8
     ensures config { config.new ≡ fresh_room file.now config.old }
 {
     let loaded = model::load(file);
-    let verdict = loaded.verdict;
-    if model::refusal(verdict) != 0 {
+    if loaded.verdict.is_err() {
         return 8;
     }
     if config.len() < config_bytes::CONFIG {
         return 6;
     }
-    let m = loaded.model;
-    let start = engine::fresh(m);
-    let c = start.config;
-    config_bytes::put_config(c, config);
+    let start = engine::fresh(loaded.model);
+    config_bytes::put_config(&start.config, config);
     0
 }
 
-// 8, 9 or 10: the model is not valid, the command has no such code, the bytes are no configuration; else 0.
-fn first_refusal(refused: bool, code: bool, right: bool) -> u8
-    ensures { result ≡ first_number ((refused, 8) ∷ (not code, 9) ∷ (not right, 10) ∷ []) }
+// The model of a file and a configuration from its bytes. Or the number of C's interface: 8 where the model is not valid, 9
+// where the command has no such code, 10 where the bytes are no configuration.
+fn ready(file: &[u8], code: bool, config: &[u8]) -> Result<(Model, Config), u8>
+    ensures ok { IfOk result (λ p. (first_number ((not (valid (model_in file.now)), 8) ∷ (not code, 9) ∷ (not (is_config config.now), 10) ∷ []) ≡ 0) × (p.0 ≡ model_in file.now) × (p.1 ≡ config_from config.now)) }
+    ensures err { IfErr result (λ n. (n ≡ first_number ((not (valid (model_in file.now)), 8) ∷ (not code, 9) ∷ (not (is_config config.now), 10) ∷ [])) × (n ≢ 0)) }
 {
-    if refused {
-        return 8;
+    let loaded = model::load(file);
+    if loaded.verdict.is_err() {
+        return Err(8);
     }
     if !code {
-        return 9;
+        return Err(9);
     }
-    if !right {
-        return 10;
+    if !config_bytes::is_config(config) {
+        return Err(10);
     }
-    0
+    Ok((loaded.model, config_bytes::config_from(config)))
 }
 
 // 10 where the step says so; 6 where there is no room for the values; else what the step says.
@@ -113,27 +112,18 @@ pub extern "C" fn zs_step(file: &[u8], config: &mut [u8], command: &[u8], values
     ensures config { config.new ≡ step_room file.now config.old command.now values.old }
     ensures values { values.new ≡ step_values file.now config.old command.now values.old }
 {
-    let loaded = model::load(file);
-    let verdict = loaded.verdict;
-    let first = first_refusal(
-        model::refusal(verdict) != 0,
-        sets::is_within(1, sets::byte(command, 0), 8),
-        config_bytes::is_config(config),
-    );
-    if first != 0 {
-        return first;
-    }
-    let m = loaded.model;
-    let c = config_bytes::config_from(config);
-    let done = engine::step_coded(m, c, numbers::eight_of(command));
-    let answer = done.answer;
-    let number = last_refusal(engine::refusal(answer), values.len() < 9);
+    let code = sets::is_within(1, sets::byte(command, 0), 8);
+    let (m, c) = match ready(file, code, config) {
+        Ok(pair) => pair,
+        Err(number) => return number,
+    };
+    let done = engine::step_coded(m, c, bytes::eight_of(command));
+    let number = last_refusal(engine::refusal(done.answer), values.len() < 9);
     if number != 0 {
         return number;
     }
-    let next = done.config;
-    config_bytes::put_config(next, config);
-    config_bytes::put_values(answer, values);
+    config_bytes::put_config(&done.config, config);
+    config_bytes::put_values(done.answer, values);
     0
 }
 
@@ -144,26 +134,16 @@ pub extern "C" fn zs_run(file: &[u8], config: &mut [u8], tape: &[u8], lines: &mu
     ensures config { config.new ≡ run_room file.now config.old tape.now lines.old }
     ensures lines { lines.new ≡ run_lines file.now config.old tape.now lines.old }
 {
-    let loaded = model::load(file);
-    let verdict = loaded.verdict;
-    let first = first_refusal(
-        model::refusal(verdict) != 0,
-        true,
-        config_bytes::is_config(config),
-    );
-    if first != 0 {
-        return first;
-    }
-    let m = loaded.model;
-    let c = config_bytes::config_from(config);
+    let (m, c) = match ready(file, true, config) {
+        Ok(pair) => pair,
+        Err(number) => return number,
+    };
     let done = engine::run(m, c, tape, lines);
-    let answer = done.answer;
-    let number = engine::refusal(answer);
+    let number = engine::refusal(done.answer);
     if number != 0 {
         return number;
     }
-    let last = done.config;
-    config_bytes::put_config(last, config);
+    config_bytes::put_config(&done.config, config);
     0
 }
 
@@ -171,13 +151,9 @@ pub extern "C" fn zs_run(file: &[u8], config: &mut [u8], tape: &[u8], lines: &mu
 fn walk(m: Model, c: Config, tape: &[u8]) -> Config
     ensures { result ≡ config_after m c tape.now (commands tape.now) }
 {
-    let n = tape.len() / 8;
     let mut latest = c;
-    let mut i: usize = 0;
-    while i < n {
-        let done = engine::step_coded(m, latest, numbers::eight_of(sets::rest(tape, 8 * i)));
-        latest = done.config;
-        i += 1;
+    for i in 0..tape.len() / 8 {
+        latest = engine::step_coded(m, latest, bytes::eight_of(sets::rest(tape, 8 * i))).config;
     }
     latest
 }
@@ -188,23 +164,14 @@ pub extern "C" fn zs_walk(file: &[u8], config: &mut [u8], tape: &[u8]) -> u8
     ensures result { result ≡ first_number (walk_refusals file.now config.old) }
     ensures config { config.new ≡ walk_room file.now config.old tape.now }
 {
-    let loaded = model::load(file);
-    let verdict = loaded.verdict;
-    let first = first_refusal(
-        model::refusal(verdict) != 0,
-        true,
-        config_bytes::is_config(config),
-    );
-    if first != 0 {
-        return first;
-    }
-    let m = loaded.model;
-    let c = config_bytes::config_from(config);
+    let (m, c) = match ready(file, true, config) {
+        Ok(pair) => pair,
+        Err(number) => return number,
+    };
     if !engine::is_valid(m, c) {
         return 10;
     }
-    let last = walk(m, c, tape);
-    config_bytes::put_config(last, config);
+    config_bytes::put_config(&walk(m, c, tape), config);
     0
 }
 
@@ -213,12 +180,10 @@ pub extern "C" fn zs_walk(file: &[u8], config: &mut [u8], tape: &[u8]) -> u8
 pub extern "C" fn zs_shared(file: &[u8], owner: u8) -> u8
     ensures { result ≡ share_number (share_of most_entries (model_in file.now) owner) }
 {
-    let loaded = model::load(file);
-    let m = loaded.model;
-    let share = engine::shared_out(m, owner);
-    match share {
-        Share::Yes => 1,
-        Share::No => 0,
-        Share::NotAsked(number) => number,
+    match engine::shared_out(model::load(file).model, owner) {
+        Ok(true) => 1,
+        Ok(false) => 0,
+        Err(NotAsked::ModelNotValid) => 8,
+        Err(NotAsked::NoSubject) => 11,
     }
 }

@@ -1,5 +1,5 @@
 -- The places of a model: where a subject has a state, and where there is nothing but zeros.
-use mathlib.Core.Path.{◌≡◌, refl, sym, ◌∙◌}
+use mathlib.Core.Path.{◌≡◌, refl, sym, ap, ◌∙◌}
 use mathlib.Core.Bool.{Bool, true, false, ◌&&◌, not, cond}
 use mathlib.Core.List.{List, [], ◌∷◌}
 use Prim.Native.Nat.{ℕ, zero, suc, ◌+◌, ◌*◌, ◌/◌, ◌%◌, ◌≤◌, ◌<◌}
@@ -16,7 +16,7 @@ use Rattle.sets.proofs.Below.{all_stop, all_each, all_by, sum_more}
 use Rattle.sets.proofs.Groups.{in_places_at}
 use Rattle.model.specs.Records.{blank_exit, with_exits}
 use Rattle.model.specs.Rules.{state_fits, state_reaches, exit_fits, exit_reaches}
-use Rattle.model.specs.Valid.{subject_at, stored_at, exit_no, exits_from, unpacked, state_at, exit_at, is_blank_row, is_blank_state, is_blank_stored, exit_valid, state_own, state_valid, stored_valid, row_valid, subject_fits, is_blank_subject, subject_own, subject_valid, kind_at, subject_right, exits_before, first_right, state_right, start_right, exits_in_all, none_after, no_more_exits, valid}
+use Rattle.model.specs.Valid.{subject_at, stored_at, exit_no, exits_from, unpacked, state_at, exit_at, is_blank_exit, is_blank_row, is_blank_state, is_blank_stored, exit_valid, state_own, state_valid, stored_valid, row_valid, subject_fits, is_blank_subject, subject_own, subject_valid, kind_at, subject_right, exits_before, first_right, state_right, start_right, exits_in_all, none_after, no_more_exits, valid}
 use Rattle.model.specs.declared.Exit.{Exit}
 use Rattle.model.specs.declared.Model.{Model}
 use Rattle.model.specs.declared.Row.{Row}
@@ -68,18 +68,18 @@ blank_row_is w = simp sum_none
 
 -- ---- the exits of a state
 
-module _ (targets senders types : List ℕ) (st : Stored) where
+module _ (exits : List Exit) (st : Stored) where
   abbrev state : State
-  state = unpacked targets senders types st
+  state = unpacked exits st
 
   -- exit x, of eight
-  exit_of_lem : (x : ℕ) → x < 8 → exit_at state x ≡ cond (ltb x st.exits) (exit_no targets senders types (st.first + x)) blank_exit
+  exit_of_lem : (x : ℕ) → x < 8 → exit_at state x ≡ cond (ltb x st.exits) (exit_no exits (st.first + x)) blank_exit
   unfolding with_exits exits_from
-  exit_of_lem x l = in_places_at 8 blank_exit st.exits (λ i. exit_no targets senders types (st.first + i)) x blank_exit l
+  exit_of_lem x l = in_places_at 8 blank_exit st.exits (λ i. exit_no exits (st.first + i)) x blank_exit l
 
   -- one that the state has
   pub has_exit : (n states x : ℕ) → x < 8 → x < st.exits
-      → exit_valid n states state x ≡ (exit_fits st.kind (exit_no targets senders types (st.first + x)) && exit_reaches n states (exit_no targets senders types (st.first + x)))
+      → exit_valid n states state x ≡ (exit_fits st.kind (exit_no exits (st.first + x)) && exit_reaches n states (exit_no exits (st.first + x)))
   unfolding exit_valid with_exits
   has_exit n states x l h = rw (lt-ltb x st.exits h) (rw (exit_of_lem x l, lt-ltb x st.exits h))
 
@@ -109,28 +109,28 @@ any_exits : (st : Stored) (es : List Exit) → is_blank_state (with_exits st es)
 unfolding is_blank_state with_exits
 any_exits st es = refl
 
-module _ (targets senders types : List ℕ) (n states t before : ℕ) (st : Stored) where
+module _ (exits : List Exit) (n states t before : ℕ) (st : Stored) where
   -- a state that a subject has
   there_is : t < states
-      → stored_valid targets senders types n states before st ≡ (state_valid n states t (unpacked targets senders types st) && first_right states t before st.first)
+      → stored_valid exits n states before st ≡ (state_valid n states t (unpacked exits st) && first_right states t before st.first)
   unfolding stored_valid state_valid state_own first_right
   there_is l =
-      let st' = unpacked targets senders types st in
+      let st' = unpacked exits st in
       rw (lt-ltb t states l) (and_swap (state_fits st' && state_reaches n states st') (eqb st.first before) (all_below (exit_valid n states st') 8))
 
   -- past a subject's states a place is right exactly when it is blank
-  empty_is : states ≤ t → is_blank_stored st ≡ (state_valid n states t (unpacked targets senders types st) && first_right states t before st.first)
+  empty_is : states ≤ t → is_blank_stored st ≡ (state_valid n states t (unpacked exits st) && first_right states t before st.first)
   unfolding is_blank_stored state_valid state_own first_right
   empty_is l = rw (le-ltb t states l) (go (is_blank_state (with_exits st [])) refl)
     where
-      none : is_blank_state (with_exits st []) ≡ true → all_below (exit_valid n states (unpacked targets senders types st)) 8 ≡ true
-      none h = let e = blank_exits_lem st h in all_by _ 8 (λ x k. no_exit_lem targets senders types st n states x k (omega arith))
+      none : is_blank_state (with_exits st []) ≡ true → all_below (exit_valid n states (unpacked exits st)) 8 ≡ true
+      none h = let e = blank_exits_lem st h in all_by _ 8 (λ x k. no_exit_lem exits st n states x k (omega arith))
 
       go : (b : Bool) → is_blank_state (with_exits st []) ≡ b
           → (is_blank_state (with_exits st []) && eqb st.first 0)
-          ≡ ((is_blank_state (unpacked targets senders types st) && all_below (exit_valid n states (unpacked targets senders types st)) 8) && eqb st.first 0)
-      go false e = rw (any_exits st (exits_from targets senders types st), e)
-      go true e = rw (any_exits st (exits_from targets senders types st), e, none e)
+          ≡ ((is_blank_state (unpacked exits st) && all_below (exit_valid n states (unpacked exits st)) 8) && eqb st.first 0)
+      go false e = rw (any_exits st (exits_from exits st), e)
+      go true e = rw (any_exits st (exits_from exits st), e, none e)
 
 -- the kind of the initial state matters only where there is such a state
 kind_free : (n s : ℕ) (sub : Subject) (a b : ℕ) → 32 ≤ sub.initial → subject_valid n s sub a ≡ subject_valid n s sub b
@@ -165,31 +165,41 @@ kind_seen m s = go (ltb (subject_at m s).initial 32) refl
 
 -- ---- nothing but zeros from a place on
 
-pub none_turn : (l : List ℕ) (j : ℕ) → j < length l → none_after j l ≡ (eqb (get_or l j 0) 0 && none_after (j + 1) l)
+pub none_turn : (l : List Exit) (j : ℕ) → j < length l → none_after j l ≡ (is_blank_exit (get_or l j blank_exit) && none_after (j + 1) l)
 unfolding none_after
 none_turn [] j h = absurd (not-suc-le-zero h)
 none_turn (b ∷ bs) zero h = refl
 none_turn (b ∷ bs) (suc j) h = let e : suc j + 1 ≡ suc (j + 1) = omega arith in rw e (none_turn bs j (le_of_suc-le-suc h))
 
-pub none_end : (l : List ℕ) (j : ℕ) → length l ≤ j → none_after j l ≡ true
+pub none_end : (l : List Exit) (j : ℕ) → length l ≤ j → none_after j l ≡ true
 unfolding none_after
 none_end [] j h = refl
 none_end (b ∷ bs) zero h = absurd (not-suc-le-zero h)
 none_end (b ∷ bs) (suc j) h = none_end bs j (le_of_suc-le-suc h)
 
-pub none_at : (l : List ℕ) (k j : ℕ) → none_after k l ≡ true → k ≤ j → get_or l j 0 ≡ 0
+-- an exit of nothing but zeros
+blank_exit_lem : (e : Exit) → is_blank_exit e ≡ true → e ≡ blank_exit
+blank_exit_lem e h =
+    let b = and_both _ _ h in
+    let a = and_both _ _ b.left in
+    let target = eqb-true e.target 0 a.left in
+    let sender = eqb-true e.sender 0 a.right in
+    let typ = eqb-true e.typ 0 b.right in
+    λ i. record { target = target i; sender = sender i; typ = typ i }
+
+pub none_at : (l : List Exit) (k j : ℕ) → none_after k l ≡ true → k ≤ j → get_or l j blank_exit ≡ blank_exit
 unfolding none_after
 none_at [] k j h g = refl
-none_at (b ∷ bs) zero zero h g = eqb-true b 0 (and_both (eqb b 0) (none_after zero bs) h).left
-none_at (b ∷ bs) zero (suc j) h g = none_at bs zero j (and_both (eqb b 0) (none_after zero bs) h).right (omega arith)
-none_at (b ∷ bs) (suc k) zero h g = absurd (not-suc-le-zero g)
-none_at (b ∷ bs) (suc k) (suc j) h g = none_at bs k j h (le_of_suc-le-suc g)
+none_at (e ∷ es) zero zero h g = blank_exit_lem e (and_both (is_blank_exit e) (none_after zero es) h).left
+none_at (e ∷ es) zero (suc j) h g = none_at es zero j (and_both (is_blank_exit e) (none_after zero es) h).right (omega arith)
+none_at (e ∷ es) (suc k) zero h g = absurd (not-suc-le-zero g)
+none_at (e ∷ es) (suc k) (suc j) h g = none_at es k j h (le_of_suc-le-suc g)
 
-pub none_by : (l : List ℕ) (k : ℕ) → ((j : ℕ) → k ≤ j → get_or l j 0 ≡ 0) → none_after k l ≡ true
+pub none_by : (l : List Exit) (k : ℕ) → ((j : ℕ) → k ≤ j → get_or l j blank_exit ≡ blank_exit) → none_after k l ≡ true
 unfolding none_after
 none_by [] k h = refl
-none_by (b ∷ bs) zero h = and_true (eq-eqb b 0 (h zero (omega arith))) (none_by bs zero (λ j g. h (suc j) (omega arith)))
-none_by (b ∷ bs) (suc k) h = none_by bs k (λ j g. h (suc j) (omega arith))
+none_by (e ∷ es) zero h = and_true (ap is_blank_exit (h zero (omega arith))) (none_by es zero (λ j g. h (suc j) (omega arith)))
+none_by (e ∷ es) (suc k) h = none_by es k (λ j g. h (suc j) (omega arith))
 
 -- ---- the places of subject s
 
@@ -221,11 +231,11 @@ place_is m s t l =
     rw (a, b)
 
 pub there_right : (m : Model) (s t : ℕ) → t < 32 → t < (subject_at m s).states
-    → stored_valid m.targets m.senders m.types m.n (subject_at m s).states (exits_before m (s * 32 + t)) (stored_at m (s * 32 + t)) ≡ state_right m (s * 32 + t)
-there_right m s t l k = there_is m.targets m.senders m.types m.n (subject_at m s).states t _ (stored_at m (s * 32 + t)) k ∙ sym (place_is m s t l)
+    → stored_valid m.exits m.n (subject_at m s).states (exits_before m (s * 32 + t)) (stored_at m (s * 32 + t)) ≡ state_right m (s * 32 + t)
+there_right m s t l k = there_is m.exits m.n (subject_at m s).states t _ (stored_at m (s * 32 + t)) k ∙ sym (place_is m s t l)
 
 gone_right : (m : Model) (s t : ℕ) → t < 32 → (subject_at m s).states ≤ t → is_blank_stored (stored_at m (s * 32 + t)) ≡ state_right m (s * 32 + t)
-gone_right m s t l k = empty_is m.targets m.senders m.types m.n (subject_at m s).states t _ (stored_at m (s * 32 + t)) k ∙ sym (place_is m s t l)
+gone_right m s t l k = empty_is m.exits m.n (subject_at m s).states t _ (stored_at m (s * 32 + t)) k ∙ sym (place_is m s t l)
 
 -- one more place, after a
 pub next : (p : ℕ → Bool) (a t : ℕ) → all_below p (a + (t + 1)) ≡ (all_below p (a + t) && p (a + t))
@@ -282,6 +292,6 @@ no_place_lem m p l e = no_places_lem m 512 (omega arith) (all_stop (state_right 
 
 pub all_right : (m : Model) (exits : ℕ) → (within 1 m.n 16 && start_right m.n m.start) ≡ true
     → all_below (subject_right m) 16 ≡ true → all_below (state_right m) 512 ≡ true → exits ≡ exits_before m 512
-    → (leb exits 1024 && ((none_after exits m.targets && none_after exits m.senders) && none_after exits m.types)) ≡ valid m
+    → (leb exits 1024 && none_after exits m.exits) ≡ valid m
 unfolding valid exits_in_all no_more_exits
 all_right m exits h a b e = rw (h, a, b, ← e)

@@ -1,20 +1,20 @@
 -- Laws of the model that a file's records say: its counts are bytes, and the parts that the code reads and computes are those of the spec.
-use mathlib.Core.Path.{◌≡◌, refl, ap, ◌∙◌}
+use mathlib.Core.Path.{◌≡◌, refl, sym, ap, ◌∙◌}
 use mathlib.Core.Bool.{Bool, true, false, cond}
 use mathlib.Core.List.{List}
 use Prim.Native.Nat.{ℕ, ◌+◌, ◌*◌, ◌/◌, ◌%◌, ◌≤◌, ◌<◌}
 use native.Mathlib.Omega.{arith}
-use borrow.Author.Tests.{eqb-true, eqb-false}
+use borrow.Author.Tests.{lt-ltb, le-ltb, eq-eqb, ne_eqb}
 use lib.Dec.{ltb, eqb}
 use lib.ListN.{get_or}
 use mir.Syntax.{w8}
 use mir.Val.{Fits}
 use Rattle.sets.specs.Below.{sum_below, table}
-use Rattle.sets.proofs.Below.{sum_turn, sum_bound, table_at}
+use Rattle.sets.proofs.Below.{sum_bound, table_at}
 use Rattle.sets.proofs.Bytes.{byte_at, bytes_by}
 use Rattle.sets.proofs.Tests.{choose}
 use Rattle.blocks.proofs.BlockLaws.{record_bytes}
-use Rattle.blocks.specs.Blocks.{record_of, record_from, first_block}
+use Rattle.blocks.specs.Blocks.{record_of, record_from, record_no, first_block}
 use Rattle.model.specs.Records.{blank_stored, state_key, stored_of}
 use Rattle.model.specs.Decoded.{subjects_in, rows_in, subject_in, states_in, has_state, exits_in, stored_in, state_named, exits_named, exits_named_in}
 use Rattle.model.specs.declared.Stored.{Stored}
@@ -47,18 +47,6 @@ module _ (file : List ℕ) where
     pub places_few : (p : ℕ) → sum_below (exits_in file) p ≤ 255 * p
     places_few p = sum_bound (exits_in file) 255 p (λ i l. exits_few i)
 
--- a sum over groups of 32 places: the place after p is in the same group, or the first of the next
-pub next_turn : (f : ℕ → ℕ) (p x y r : ℕ) → x ≡ sum_below f (p / 32) → y ≡ f (p / 32) → r ≡ cond (eqb (p % 32) 31) (x + y) x → r ≡ sum_below f ((p + 1) / 32)
-next_turn f p x y r e g h = h ∙ go (eqb (p % 32) 31) refl
-  where
-    go : (b : Bool) → eqb (p % 32) 31 ≡ b → cond b (x + y) x ≡ sum_below f ((p + 1) / 32)
-    go true q =
-        let d : (p + 1) / 32 ≡ p / 32 + 1 = omega (arith, eqb-true (p % 32) 31 q) in
-        rw d (sum_turn f x y (p / 32) e g)
-    go false q =
-        let d : (p + 1) / 32 ≡ p / 32 = omega (arith, eqb-false (p % 32) 31 q) in
-        rw d e
-
 -- ---- the parts of the model
 
 exits_by : (b : Bool) (x y : Stored) → (cond b x y).exits ≡ cond b x.exits y.exits
@@ -79,18 +67,35 @@ module _ (file : List ℕ) where
   pub exits_at : (l : List Stored) (p : ℕ) (d : Stored) → l ≡ table (stored_in file) 512 → p < 512 → (get_or l p d).exits ≡ exits_in file p
   exits_at l p d e h = rw e (ap (λ (x : Stored). x.exits) (table_at (stored_in file) 512 p d h) ∙ exits_are p)
 
-  -- the state at place p, from how many its subject has, where those start and where its exits do
-  module _ (p own start first : ℕ) (o : own ≡ states_in file (p / 32)) (s : start ≡ sum_below (states_in file) (p / 32)) (f : first ≡ first_block file 2) where
-    pub state_is : (place : ℕ) → place ≡ sum_below (exits_in file) p
-        → cond (ltb (p % 32) own) (stored_of (record_from file first (start + p % 32)) (place % 65536)) blank_stored ≡ stored_in file p
+  -- state t of subject s, from how many states the subject has, where those start and where its exits do
+  module _ (s t own start : ℕ) (few : t < 32) (o : own ≡ states_in file s) (b : start ≡ sum_below (states_in file) s) where
+    pub state_is : (place : ℕ) → place ≡ sum_below (exits_in file) (s * 32 + t)
+        → cond (ltb t own) (stored_of (record_no file 2 (start + t)) (place % 65536)) blank_stored ≡ stored_in file (s * 32 + t)
     unfolding stored_in
-    state_is place e = rw (o, s, f, e)
+    state_is place e =
+        let d : (s * 32 + t) / 32 ≡ s = omega arith in
+        let m : (s * 32 + t) % 32 ≡ t = omega arith in
+        rw (d, m, o, b, e)
 
-    pub named_is : cond (ltb (p % 32) own) (eqb (state_key (record_from file first (start + p % 32))) (p % 32 + 256 * (p / 32))) true ≡ state_named file p
+    named_is : cond (ltb t own) (eqb (state_key (record_no file 2 (start + t))) (t + 256 * s)) true ≡ state_named file (s * 32 + t)
     unfolding state_named
-    named_is = rw (o, s, f)
+    named_is =
+        let d : (s * 32 + t) / 32 ≡ s = omega arith in
+        let m : (s * 32 + t) % 32 ≡ t = omega arith in
+        rw (d, m, o, b)
 
-  pub exits_named_is : (p exits place first : ℕ) → exits ≡ exits_in file p → place ≡ sum_below (exits_in file) p → first ≡ first_block file 3
-      → exits_named file first place exits (p % 32 + 256 * (p / 32)) ≡ exits_named_in file p
+    -- its record names it or another, or it has none
+    module _ (key : ℕ) (k : key ≡ state_key (record_no file 2 (start + t))) where
+      pub named_here : t < own → key ≡ t + 256 * s → state_named file (s * 32 + t) ≡ true
+      named_here l e = sym named_is ∙ rw (lt-ltb t own l, ← k, eq-eqb key (t + 256 * s) e)
+
+      pub named_other : t < own → (key ≡ t + 256 * s → ⊥) → state_named file (s * 32 + t) ≡ false
+      named_other l e = sym named_is ∙ rw (lt-ltb t own l, ← k, ne_eqb key (t + 256 * s) e)
+
+    pub named_past : own ≤ t → state_named file (s * 32 + t) ≡ true
+    named_past l = sym named_is ∙ rw (le-ltb t own l)
+
+  pub exits_named_is : (p exits place : ℕ) → exits ≡ exits_in file p → place ≡ sum_below (exits_in file) p
+      → exits_named file (first_block file 3) place exits (p % 32 + 256 * (p / 32)) ≡ exits_named_in file p
   unfolding exits_named_in
-  exits_named_is p exits place first x e f = rw (x, e, f)
+  exits_named_is p exits place x e = rw (x, e)

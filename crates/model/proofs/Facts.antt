@@ -217,7 +217,7 @@ pub record GoodModel (m : Model) : Type 0 where
   pub exits : sum_below (λ p. (state_at m p).exits) 512 ≤ 1024
   pub first : (p : ℕ) → p < 512 → p % 32 < (subject_at m (p / 32)).states → (stored_at m p).first ≡ sum_below (λ q. (state_at m q).exits) p
   pub no_first : (p : ℕ) → p < 512 → (subject_at m (p / 32)).states ≤ p % 32 → (stored_at m p).first ≡ 0
-  pub no_more : (j : ℕ) → sum_below (λ p. (state_at m p).exits) 512 ≤ j → exit_no m.targets m.senders m.types j ≡ blank_exit
+  pub no_more : (j : ℕ) → sum_below (λ p. (state_at m p).exits) 512 ≤ j → exit_no m.exits j ≡ blank_exit
 
 row_right : (n : ℕ) (sub : Subject) (k : ℕ) → n ≤ 16 → row_valid n sub k ≡ true → k < sub.rows → GoodRow (row_at sub k) × (row_ascends sub k ≡ true)
 unfolding row_valid
@@ -359,15 +359,9 @@ unfolding state_right first_right
 state_right_lem m p ln ls h = let b = and_both _ _ h in (state_good _ _ _ _ ln ls b.left, eqb-true _ _ b.right)
 
 -- past the last exit there is no exit
-no_exit_lem : (m : Model) → no_more_exits m ≡ true → (j : ℕ) → exits_in_all m ≤ j → exit_no m.targets m.senders m.types j ≡ blank_exit
+no_exit_lem : (m : Model) → no_more_exits m ≡ true → (j : ℕ) → exits_in_all m ≤ j → exit_no m.exits j ≡ blank_exit
 unfolding no_more_exits
-no_exit_lem m h j l =
-    let b = and_both _ _ h in
-    let a = and_both _ _ b.left in
-    let x = none_at m.targets (exits_in_all m) j a.left l in
-    let y = none_at m.senders (exits_in_all m) j a.right l in
-    let z = none_at m.types (exits_in_all m) j b.right l in
-    λ i. record { target = x i; sender = y i; typ = z i }
+no_exit_lem m h j l = none_at m.exits (exits_in_all m) j h l
 
 pub model_good : (m : Model) → valid m ≡ true → GoodModel m
 unfolding valid subject_right exits_in_all
@@ -422,7 +416,7 @@ has_state_lem m good p x l h = go (ltb (p % 32) (subject_at m (p / 32)).states) 
 
 -- exit x of the state at place p, among those of all states
 pub exit_is : (m : Model) → GoodModel m → (p x : ℕ) → p < 512 → x < (state_at m p).exits
-    → exit_at (state_at m p) x ≡ exit_no m.targets m.senders m.types (place_in (exits_of m) p x)
+    → exit_at (state_at m p) x ≡ exit_no m.exits (place_in (exits_of m) p x)
 unfolding with_exits exits_from
 exit_is m good p x l h =
     let few = (good.state p l).small.exits in

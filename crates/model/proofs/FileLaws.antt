@@ -1,4 +1,5 @@
 -- The file of a valid model: how long it is, and that the records of all kinds, written one after the other, are it.
+use Rattle.std.specs.Prelude.{Result, Ok, Err}
 use mathlib.Core.Path.{◌≡◌, refl, sym, ap, ◌∙◌}
 use mathlib.Core.Bool.{true, false}
 use mathlib.Core.List.{List}
@@ -18,8 +19,8 @@ use Rattle.model.specs.Valid.{subject_at, valid}
 use Rattle.model.specs.Writing.{written_as, buffer_of}
 use Rattle.model.specs.inner.Lines.{kind_blocks}
 use Rattle.model.specs.declared.Model.{Model}
-use Rattle.model.specs.declared.Written.{Written}
-use Rattle.model.specs.declared.Written.TheVariants.{Bytes, NotValid, TooShort}
+use Rattle.model.specs.declared.Unwritten.{Unwritten}
+use Rattle.model.specs.declared.Unwritten.TheVariants.{NotValid, TooShort}
 use Rattle.model.proofs.Facts.{GoodModel, model_good}
 use Rattle.model.proofs.Lines.{length_states, length_exits, length_limits, all_long, fits}
 use Rattle.model.proofs.Places.{Twelve, made, kind_more, length_made, file_each, length_file, start_more}
@@ -90,36 +91,36 @@ four_kinds m old one two three four room a b c d =
 
 -- ---- the answer, and the buffer
 
-pub not_valid : (m : Model) (old : List ℕ) → valid m ≡ false → (NotValid ≡ written_as m (length old)) × (old ≡ buffer_of m old)
+pub not_valid : (m : Model) (old : List ℕ) → valid m ≡ false → ((Err NotValid) ≡ written_as m (length old)) × (old ≡ buffer_of m old)
 unfolding written_as buffer_of
 not_valid m old e = (rw e, rw e)
 
-pub too_short : (m : Model) (old : List ℕ) → valid m ≡ true → length old < length (file_of m) → (TooShort ≡ written_as m (length old)) × (old ≡ buffer_of m old)
+pub too_short : (m : Model) (old : List ℕ) → valid m ≡ true → length old < length (file_of m) → ((Err TooShort) ≡ written_as m (length old)) × (old ≡ buffer_of m old)
 unfolding written_as buffer_of
 too_short m old e h = (rw (e, lt-ltb (length old) (length (file_of m)) h), rw (e, lt-ltb (length old) (length (file_of m)) h))
 
 pub whole : (m : Model) (old : List ℕ) → valid m ≡ true → length (file_of m) ≤ length old
-    → (Bytes (length (file_of m)) ≡ written_as m (length old)) × (onto (file_of m) old ≡ buffer_of m old)
+    → (Ok (length (file_of m)) ≡ written_as m (length old)) × (onto (file_of m) old ≡ buffer_of m old)
 unfolding written_as buffer_of
 whole m old e h = (rw (e, le-ltb (length old) (length (file_of m)) h), rw (e, le-ltb (length old) (length (file_of m)) h))
 
 -- a file has at most 43 blocks
-pub few_bytes : (m : Model) (room n : ℕ) → written_as m room ≡ Bytes n → n ≤ 22016
+pub few_bytes : (m : Model) (room n : ℕ) → written_as m room ≡ Ok n → n ≤ 22016
 unfolding written_as
-few_bytes m room n = choose P (valid m) (λ e. choose P (ltb room (length (file_of m))) (λ _. no_bytes TooShort 0 refl) (λ _ h. fit e h)) (λ _. no_bytes NotValid 1 refl)
+few_bytes m room n = choose P (valid m) (λ e. choose P (ltb room (length (file_of m))) (λ _. no_bytes (Err TooShort) 0 refl) (λ _ h. fit e h)) (λ _. no_bytes (Err NotValid) 1 refl)
   where
-    P : Written → Type 0
-    P w = w ≡ Bytes n → n ≤ 22016
+    P : Result ℕ Unwritten → Type 0
+    P w = w ≡ Ok n → n ≤ 22016
 
-    which : Written → ℕ
-    which (Bytes k) = 0
-    which TooShort = 1
-    which NotValid = 2
+    which : Result ℕ Unwritten → ℕ
+    which (Ok k) = 0
+    which (Err TooShort) = 1
+    which (Err NotValid) = 2
 
-    no_bytes : (w : Written) (k : ℕ) → which w ≡ suc k → P w
+    no_bytes : (w : Result ℕ Unwritten) (k : ℕ) → which w ≡ suc k → P w
     no_bytes w k e h = absurd (omega (arith, e, ap which h))
 
-    fit : valid m ≡ true → P (Bytes (length (file_of m)))
+    fit : valid m ≡ true → P (Ok (length (file_of m)))
     fit e h =
         let same : length (file_of m) ≡ n = cc in
         omega (arith, file_length m, fits m (model_good m e))

@@ -1,6 +1,5 @@
 -- The records of a kind of a valid model as they are written, group by group.
 use mathlib.Core.Path.{◌≡◌, refl, sym, ap, subst, ◌∙◌}
-use mathlib.Core.Bool.{true}
 use mathlib.Core.List.{List, []}
 use Prim.Native.Nat.{ℕ, suc, ◌+◌, ◌*◌, ◌/◌, ◌%◌, ◌≤◌, ◌<◌}
 use native.Mathlib.Omega.{arith}
@@ -12,8 +11,8 @@ use Rattle.sets.proofs.Below.{sum_has, sum_more, table_at}
 use Rattle.sets.proofs.Groups.{length_lined, lined_at}
 use Rattle.model.specs.File.{header_record, subject_record, state_record, exit_record, limit_record, headers, state_records, exit_records, limit_records, records_of, start_of}
 use Rattle.model.specs.Records.{with_exits}
-use Rattle.model.specs.Valid.{subject_at, stored_at, exit_no, state_at, exit_at, row_at, valid}
-use Rattle.model.specs.inner.Lines.{next_of, put_on, end_of, end_on, kind_blocks}
+use Rattle.model.specs.Valid.{subject_at, stored_at, exit_no, state_at, exit_at, row_at}
+use Rattle.model.specs.inner.Lines.{HasRoom, next_of, put_on, end_of, end_on, kind_blocks}
 use Rattle.model.specs.declared.Model.{Model}
 use Rattle.model.specs.declared.writing.Line.{Line}
 use Rattle.model.proofs.Facts.{GoodModel, model_good, states_of, rows_of, has_state_lem, exit_is}
@@ -27,19 +26,19 @@ pub record Ready (m : Model) (k : ℕ) (old : List ℕ) : Type 0 where
   pub kind : k ≤ 4
   pub enough : start_of (records_of m) 5 * 512 ≤ length old
 
-pub ready_for : (m : Model) (k : ℕ) (old : List ℕ) → valid m ≡ true → k ≤ 4 → start_of (records_of m) 5 * 512 ≤ length old → Ready m k old
-ready_for m k old ok h room = record { good = model_good m ok; kind = h; enough = room }
+pub ready_for : (m : Model) (k : ℕ) (old : List ℕ) → k ≤ 4 → HasRoom m old → Ready m k old
+ready_for m k old h has = record { good = model_good m has.0; kind = h; enough = has.1 }
 
 -- j records of kind k are written
 abbrev pub Lay : Model → ℕ → List ℕ → ℕ → Line → List ℕ → Type 0
 Lay m k old j line now = Laid (start_of (records_of m) k) k (records_of m k) old j line now
 
 -- none of them yet
-pub lay_start : (m : Model) (k : ℕ) (old : List ℕ) (block : ℕ) → block ≡ start_of (records_of m) k → Lay m k old 0 (record { block = block; used = 0 }) old
+pub lay_start : (m : Model) (k : ℕ) (old : List ℕ) (block : ℕ) → block ≡ start_of (records_of m) k → Lay m k old 0 (record { kind = k; block = block; used = 0 }) old
 lay_start m k old block e = rw e (laid_start (start_of (records_of m) k) k (records_of m k) old)
 
 pub items_start : (m : Model) (k : ℕ) (old : List ℕ) (count : ℕ → ℕ) (block : ℕ) → block ≡ start_of (records_of m) k
-    → Lay m k old (place_in count 0 0) (record { block = block; used = 0 }) old
+    → Lay m k old (place_in count 0 0) (record { kind = k; block = block; used = 0 }) old
 unfolding sum_below
 items_start m k old count block e = lay_start m k old block e
 
@@ -56,7 +55,7 @@ module _ {m : Model} {k : ℕ} {old : List ℕ} (ready : Ready m k old) where
 
   -- one more
   pub kind_put : (j : ℕ) (line next : Line) (now after r : List ℕ) → Lay m k old j line now → j < length (records_of m k) → r ≡ get_or (records_of m k) j []
-      → after ≡ put_on now k line r → next ≡ next_of line → Lay m k old (suc j) next after
+      → after ≡ put_on now line r → next ≡ next_of line → Lay m k old (suc j) next after
   kind_put j line next now after r l h e f g = rw (f, g) (laid_put (start_of (records_of m) k) k (records_of m k) old room j line now r l h e)
 
   -- the next one has its place
@@ -64,7 +63,7 @@ module _ {m : Model} {k : ℕ} {old : List ℕ} (ready : Ready m k old) where
   kind_there = laid_there (start_of (records_of m) k) k (records_of m k) old room
 
   -- all of them
-  pub kind_end : (line : Line) (now after : List ℕ) (next : ℕ) → Lay m k old (length (records_of m k)) line now → after ≡ end_on now k line → next ≡ end_of line
+  pub kind_end : (line : Line) (now after : List ℕ) (next : ℕ) → Lay m k old (length (records_of m k)) line now → after ≡ end_on now line → next ≡ end_of line
       → (after ≡ stored old (start_of (records_of m) k * 512) (kind_blocks (records_of m) k)) × (next ≡ start_of (records_of m) (suc k))
   unfolding kind_blocks
   kind_end line now after next l f g =
@@ -81,7 +80,7 @@ module _ {m : Model} {k : ℕ} {old : List ℕ} (ready : Ready m k old) where
     how_many : length (records_of m k) ≡ sum_below count n
     how_many = ap length is ∙ length_lined count item n
 
-    pub item_put : (g x : ℕ) (line next : Line) (now after r : List ℕ) → g < n → x < count g → r ≡ item g x → after ≡ put_on now k line r → next ≡ next_of line
+    pub item_put : (g x : ℕ) (line next : Line) (now after r : List ℕ) → g < n → x < count g → r ≡ item g x → after ≡ put_on now line r → next ≡ next_of line
         → Lay m k old (place_in count g x) line now → Lay m k old (place_in count g (x + 1)) next after
     item_put g x line next now after r l h e f z lay =
         let here = ap (λ (rs : List (List ℕ)). get_or rs (place_in count g x) []) is ∙ lined_at count item n g x [] l h in
@@ -104,7 +103,7 @@ module _ {m : Model} {k : ℕ} {old : List ℕ} (ready : Ready m k old) where
     items_there g line now l h lay = kind_there (place_in count g 0) line now lay (omega (arith, all_items g l h))
 
     pub items_end : (g : ℕ) (line : Line) (now after : List ℕ) (next : ℕ) → g ≤ n → n ≤ g → Lay m k old (place_in count g 0) line now
-        → after ≡ end_on now k line → next ≡ end_of line
+        → after ≡ end_on now line → next ≡ end_of line
         → (after ≡ stored old (start_of (records_of m) k * 512) (kind_blocks (records_of m) k)) × (next ≡ start_of (records_of m) (suc k))
     items_end g line now after next l h lay = kind_end line now after next (lay_at line now (all_items g l h) lay)
 
@@ -143,10 +142,10 @@ exits_kept m p = (stored_at m p).exits
 
 -- exit x of the state at place p is the x-th from its first on
 pub exit_item : (m : Model) → GoodModel m → (p x : ℕ) → p < 512 → x < exits_kept m p
-    → exit_no m.targets m.senders m.types ((stored_at m p).first + x) ≡ exit_at (state_at m p) x
+    → exit_no m.exits ((stored_at m p).first + x) ≡ exit_at (state_at m p) x
 unfolding with_exits
 exit_item m good p x l h =
-    ap (λ (f : ℕ). exit_no m.targets m.senders m.types (f + x)) (good.first p l (has_state_lem m good p x l h)) ∙ sym (exit_is m good p x l h)
+    ap (λ (f : ℕ). exit_no m.exits (f + x)) (good.first p l (has_state_lem m good p x l h)) ∙ sym (exit_is m good p x l h)
 
 pub exits_few : (m : Model) → GoodModel m → (p : ℕ) → p < 512 → exits_kept m p ≤ 8
 unfolding with_exits

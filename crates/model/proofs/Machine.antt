@@ -34,8 +34,6 @@ machine_held m vs p =
       subjects = some;
       states = all;
       rows = λ s l. let q = each_at _ (subject.the_row).own_val m.subjects subjects.0 subjects.1.1 s no_subject (omega arith) in rows_held (subject_at m s) _ q.1;
-      targets = exits.0.1.0.1;
-      senders = exits.1.0.1.0.1;
-      types = exits.1.1.0.1.0.1;
+      exits = exits.0.1.0.1;
       afters = λ i l. let q = each_at _ (stored.the_row).own_val m.states states.0 states.1.1 i blank_stored (omega arith) in after_held (stored_at m i) _ q.1;
     }

@@ -42,12 +42,13 @@ pub record Laid (first k : ℕ) (rs : List (List ℕ)) (old : List ℕ) (j : ℕ
   pub i : ℕ
   pub at : q * 42 + i ≡ j
   pub below : i < 42
+  pub kind : line.kind ≡ k
   pub block : line.block ≡ first + q
   pub used : line.used ≡ i
   pub bytes : now ≡ begun first k rs old q i
 
 -- nothing is written yet
-pub laid_start : (first k : ℕ) (rs : List (List ℕ)) (old : List ℕ) → Laid first k rs old 0 (record { block = first; used = 0 }) old
+pub laid_start : (first k : ℕ) (rs : List (List ℕ)) (old : List ℕ) → Laid first k rs old 0 (record { kind = k; block = first; used = 0 }) old
 unfolding each_of joined
 laid_start first k rs old =
     record {
@@ -55,36 +56,37 @@ laid_start first k rs old =
       i = 0;
       at = refl;
       below = omega arith;
+      kind = refl;
       block = omega arith;
       used = refl;
       bytes = stored_none old (first * 512) ∙ stored_none (stored old (first * 512) []) ((first + 0) * 512 + 4);
     }
 
 -- the line and the buffer after one more record, and at the end, by whether the block is full or empty
-pub next_full : (line : Line) → line.used ≡ 41 → next_of line ≡ record { block = line.block + 1; used = 0 }
+pub next_full : (line : Line) → line.used ≡ 41 → next_of line ≡ record { kind = line.kind; block = line.block + 1; used = 0 }
 unfolding next_of
 next_full line e = rw (eq-eqb line.used 41 e)
 
-pub next_open : (line : Line) → (line.used ≡ 41 → ⊥) → next_of line ≡ record { block = line.block; used = line.used + 1 }
+pub next_open : (line : Line) → (line.used ≡ 41 → ⊥) → next_of line ≡ record { kind = line.kind; block = line.block; used = line.used + 1 }
 unfolding next_of
 next_open line e = rw (ne_eqb line.used 41 e)
 
-pub put_full : (old : List ℕ) (k : ℕ) (line : Line) (r : List ℕ) → line.used ≡ 41
-    → put_on old k line r ≡ sealed (with_record old line.block line.used r) line.block k 42
+pub put_full : (old : List ℕ) (line : Line) (r : List ℕ) → line.used ≡ 41
+    → put_on old line r ≡ sealed (with_record old line.block line.used r) line.block line.kind 42
 unfolding put_on
-put_full old k line r e = rw (eq-eqb line.used 41 e)
+put_full old line r e = rw (eq-eqb line.used 41 e)
 
-pub put_open : (old : List ℕ) (k : ℕ) (line : Line) (r : List ℕ) → (line.used ≡ 41 → ⊥) → put_on old k line r ≡ with_record old line.block line.used r
+pub put_open : (old : List ℕ) (line : Line) (r : List ℕ) → (line.used ≡ 41 → ⊥) → put_on old line r ≡ with_record old line.block line.used r
 unfolding put_on
-put_open old k line r e = rw (ne_eqb line.used 41 e)
+put_open old line r e = rw (ne_eqb line.used 41 e)
 
-pub end_empty : (old : List ℕ) (k : ℕ) (line : Line) → line.used ≡ 0 → (end_of line ≡ line.block) × (end_on old k line ≡ old)
+pub end_empty : (old : List ℕ) (line : Line) → line.used ≡ 0 → (end_of line ≡ line.block) × (end_on old line ≡ old)
 unfolding end_of end_on
-end_empty old k line e = (rw (eq-eqb line.used 0 e), rw (eq-eqb line.used 0 e))
+end_empty old line e = (rw (eq-eqb line.used 0 e), rw (eq-eqb line.used 0 e))
 
-pub end_open : (old : List ℕ) (k : ℕ) (line : Line) → (line.used ≡ 0 → ⊥) → (end_of line ≡ line.block + 1) × (end_on old k line ≡ sealed old line.block k line.used)
+pub end_open : (old : List ℕ) (line : Line) → (line.used ≡ 0 → ⊥) → (end_of line ≡ line.block + 1) × (end_on old line ≡ sealed old line.block line.kind line.used)
 unfolding end_of end_on
-end_open old k line e = (rw (ne_eqb line.used 0 e), rw (ne_eqb line.used 0 e))
+end_open old line e = (rw (ne_eqb line.used 0 e), rw (ne_eqb line.used 0 e))
 
 module _ (first k : ℕ) (rs : List (List ℕ)) (old : List ℕ) (room : Room first rs old) where
   -- the records of a block, and of a part of it, are twelve bytes each
@@ -142,7 +144,7 @@ module _ (first k : ℕ) (rs : List (List ℕ)) (old : List ℕ) (room : Room fi
   none_begun q = stored_none (full first k rs old q) ((first + q) * 512 + 4)
 
   pub laid_put : (j : ℕ) (line : Line) (now r : List ℕ) → Laid first k rs old j line now → j < length rs → r ≡ get_or rs j []
-      → Laid first k rs old (suc j) (next_of line) (put_on now k line r)
+      → Laid first k rs old (suc j) (next_of line) (put_on now line r)
   laid_put j line now r l h e = go (eqb l.i 41) refl
     where
       here : with_record now line.block line.used r ≡ begun first k rs old l.q (suc l.i)
@@ -151,7 +153,7 @@ module _ (first k : ℕ) (rs : List (List ℕ)) (old : List ℕ) (room : Room fi
           ∙ ap (λ (i : ℕ). with_record now (first + l.q) i r) l.used
           ∙ one_more l.q l.i now r l.below (omega (arith, l.at)) (e ∙ ap (λ (i : ℕ). get_or rs i []) (sym l.at)) l.bytes
 
-      go : (t : Bool) → eqb l.i 41 ≡ t → Laid first k rs old (suc j) (next_of line) (put_on now k line r)
+      go : (t : Bool) → eqb l.i 41 ≡ t → Laid first k rs old (suc j) (next_of line) (put_on now line r)
       go true t =
           let i = eqb-true l.i 41 t in
           let u = l.used ∙ i in
@@ -164,11 +166,13 @@ module _ (first k : ℕ) (rs : List (List ℕ)) (old : List ℕ) (room : Room fi
             i = 0;
             at = omega (arith, l.at);
             below = omega arith;
+            kind = ap (λ (x : Line). x.kind) next ∙ l.kind;
             block = ap (λ (x : Line). x.block) next ∙ omega (arith, l.block);
             used = ap (λ (x : Line). x.used) next;
             bytes =
-                put_full now k line r u
-                ∙ ap (λ (b : ℕ). sealed (with_record now line.block line.used r) b k 42) l.block
+                put_full now line r u
+                ∙ ap (λ (b : ℕ). sealed (with_record now line.block line.used r) b line.kind 42) l.block
+                ∙ ap (λ (j : ℕ). sealed (with_record now line.block line.used r) (first + l.q) j 42) l.kind
                 ∙ closed l.q 42 (with_record now line.block line.used r) (omega arith) (omega (arith, l.at)) long refl all
                 ∙ none_begun (suc l.q);
           }
@@ -181,9 +185,10 @@ module _ (first k : ℕ) (rs : List (List ℕ)) (old : List ℕ) (room : Room fi
             i = suc l.i;
             at = omega (arith, l.at);
             below = omega (arith, l.below, i);
+            kind = ap (λ (x : Line). x.kind) next ∙ l.kind;
             block = ap (λ (x : Line). x.block) next ∙ l.block;
             used = ap (λ (x : Line). x.used) next ∙ omega (arith, l.used);
-            bytes = put_open now k line r apart ∙ here;
+            bytes = put_open now line r apart ∙ here;
           }
 
   -- there is a block for the next record, or it is the one behind the last
@@ -194,21 +199,21 @@ module _ (first k : ℕ) (rs : List (List ℕ)) (old : List ℕ) (room : Room fi
 
   -- all records of the kind are written
   pub laid_end : (line : Line) (now : List ℕ) → Laid first k rs old (length rs) line now
-      → (end_of line ≡ first + blocks_for (length rs)) × (end_on now k line ≡ stored old (first * 512) (each_of (block_no first k rs) (blocks_for (length rs))))
+      → (end_of line ≡ first + blocks_for (length rs)) × (end_on now line ≡ stored old (first * 512) (each_of (block_no first k rs) (blocks_for (length rs))))
   laid_end line now l = go (eqb l.i 0) refl
     where
       go : (t : Bool) → eqb l.i 0 ≡ t
-          → (end_of line ≡ first + blocks_for (length rs)) × (end_on now k line ≡ stored old (first * 512) (each_of (block_no first k rs) (blocks_for (length rs))))
+          → (end_of line ≡ first + blocks_for (length rs)) × (end_on now line ≡ stored old (first * 512) (each_of (block_no first k rs) (blocks_for (length rs))))
       go true t =
           let i = eqb-true l.i 0 t in
-          let e = end_empty now k line (l.used ∙ i) in
+          let e = end_empty now line (l.used ∙ i) in
           let q : l.q ≡ blocks_for (length rs) = omega (arith, l.at) in (
             e.0 ∙ l.block ∙ ap (λ (x : ℕ). first + x) q,
             e.1 ∙ l.bytes ∙ ap (begun first k rs old l.q) i ∙ sym (none_begun l.q) ∙ ap (full first k rs old) q,
           )
       go false t =
           let i = eqb-false l.i 0 t in
-          let e = end_open now k line (λ z. i (sym l.used ∙ z)) in
+          let e = end_open now line (λ z. i (sym l.used ∙ z)) in
           let q : suc l.q ≡ blocks_for (length rs) = omega (arith, l.at, l.below, i) in
           let n = length-drop (l.q * 42) rs in
           let rest : length (drop (l.q * 42) rs) ≡ l.i = omega (arith, l.at) in
@@ -216,7 +221,8 @@ module _ (first k : ℕ) (rs : List (List ℕ)) (old : List ℕ) (room : Room fi
           let all : part 42 rs l.q ≡ drop (l.q * 42) rs = take_all 42 (drop (l.q * 42) rs) (omega (arith, l.below)) in (
             e.0 ∙ omega (arith, l.block),
             e.1
-                ∙ ap (λ (b : ℕ). sealed now b k line.used) l.block
+                ∙ ap (λ (b : ℕ). sealed now b line.kind line.used) l.block
+                ∙ ap (λ (j : ℕ). sealed now (first + l.q) j line.used) l.kind
                 ∙ ap (sealed now (first + l.q) k) l.used
                 ∙ closed l.q l.i now (omega (arith, l.below)) (omega (arith, l.at, i)) (ap length own ∙ rest) (own ∙ sym all) l.bytes
                 ∙ ap (full first k rs old) q,

@@ -5,7 +5,8 @@ use Rattle.sets.specs.Groups.{place_in, in_places}
 use Rattle.sets.specs.Tests.{word_at}
 use Rattle.blocks.specs.Blocks.{first_block, record_of, record_from, record_no, count_of}
 use Rattle.model.specs.Sizes.{most_subjects, most_states, state_places, most_exits_in_all, most_rows}
-use Rattle.model.specs.Records.{blank_row, blank_stored, blank_subject, stored_of, row_of, state_key, full_key}
+use Rattle.model.specs.Records.{blank_exit, blank_row, blank_stored, blank_subject, stored_of, exit_of, row_of, state_key, full_key}
+use Rattle.model.specs.declared.Exit.{Exit}
 use Rattle.model.specs.declared.Model.{Model}
 use Rattle.model.specs.declared.Row.{Row}
 use Rattle.model.specs.declared.Stored.{Stored}
@@ -66,11 +67,10 @@ exits_in file p = cond (has_state file p) (get_or (state_record_in file p) 3 0) 
 unfoldable pub stored_in : List ℕ → ℕ → Stored
 stored_in file p = cond (has_state file p) (stored_of (state_record_in file p) (sum_below (exits_in file) p % 65536)) blank_stored
 
--- byte f of the exit records in order, as far as the model has room
-unfoldable pub exit_bytes : List ℕ → ℕ → List ℕ
-exit_bytes file f = in_places most_exits_in_all 0 (count_of file 3) (λ j. get_or (record_no file 3 j) f 0)
+-- the exits of the exit records in order, as far as the model has room
+unfoldable pub all_exits : List ℕ → List Exit
+all_exits file = in_places most_exits_in_all blank_exit (count_of file 3) (λ j. exit_of (record_no file 3 j))
 
--- exit record: 3 target; 4 sender; 5 type
 unfoldable pub model_of : List ℕ → Model
 model_of file =
     record {
@@ -78,9 +78,7 @@ model_of file =
       start = start_in file;
       subjects = table (subject_in file) most_subjects;
       states = table (stored_in file) state_places;
-      targets = exit_bytes file 3;
-      senders = exit_bytes file 4;
-      types = exit_bytes file 5;
+      exits = all_exits file;
     }
 
 -- ---- 5: a state or exit missing or too many, a limit's owner that does not exist, more than 8 rows

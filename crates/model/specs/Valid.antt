@@ -30,19 +30,19 @@ abbrev pub stored_at : Model → ℕ → Stored
 stored_at m p = get_or m.states p blank_stored
 
 -- exit j of those of a model, in the order of their states
-abbrev pub exit_no : List ℕ → List ℕ → List ℕ → ℕ → Exit
-exit_no targets senders types j = record { target = get_or targets j 0; sender = get_or senders j 0; typ = get_or types j 0 }
+abbrev pub exit_no : List Exit → ℕ → Exit
+exit_no exits j = get_or exits j blank_exit
 
 -- the exits of a state, from its first on
-unfoldable pub exits_from : List ℕ → List ℕ → List ℕ → Stored → List Exit
-exits_from targets senders types st = in_places most_exits blank_exit st.exits (λ x. exit_no targets senders types (st.first + x))
+unfoldable pub exits_from : List Exit → Stored → List Exit
+exits_from exits st = in_places most_exits blank_exit st.exits (λ x. exit_no exits (st.first + x))
 
-abbrev pub unpacked : List ℕ → List ℕ → List ℕ → Stored → State
-unpacked targets senders types st = with_exits st (exits_from targets senders types st)
+abbrev pub unpacked : List Exit → Stored → State
+unpacked exits st = with_exits st (exits_from exits st)
 
 -- the state at place p
 abbrev pub state_at : Model → ℕ → State
-state_at m p = unpacked m.targets m.senders m.types (stored_at m p)
+state_at m p = unpacked m.exits (stored_at m p)
 
 abbrev pub exit_at : State → ℕ → Exit
 exit_at st x = get_or st.exit x blank_exit
@@ -78,11 +78,11 @@ unfoldable pub state_valid : ℕ → ℕ → ℕ → State → Bool
 state_valid n states t st = state_own n states t st && all_below (exit_valid n states st) most_exits
 
 -- what a model keeps of a state that a subject with `states` states has: fields and exits right, and these begin at `place`
-unfoldable pub stored_valid : List ℕ → List ℕ → List ℕ → ℕ → ℕ → ℕ → Stored → Bool
-stored_valid targets senders types n states place st =
-    state_fits_in n states (unpacked targets senders types st)
+unfoldable pub stored_valid : List Exit → ℕ → ℕ → ℕ → Stored → Bool
+stored_valid exits n states place st =
+    state_fits_in n states (unpacked exits st)
     && eqb st.first place
-    && all_below (exit_valid n states (unpacked targets senders types st)) most_exits
+    && all_below (exit_valid n states (unpacked exits st)) most_exits
 
 -- nothing but zeros
 unfoldable pub is_blank_stored : Stored → Bool
@@ -148,14 +148,14 @@ unfoldable pub exits_in_all : Model → ℕ
 exits_in_all m = exits_before m state_places
 
 -- nothing but zeros from place k on
-unfoldable pub none_after : ℕ → List ℕ → Bool
+unfoldable pub none_after : ℕ → List Exit → Bool
 none_after k [] = true
-none_after zero (b ∷ bs) = eqb b 0 && none_after zero bs
-none_after (suc k) (b ∷ bs) = none_after k bs
+none_after zero (e ∷ es) = is_blank_exit e && none_after zero es
+none_after (suc k) (e ∷ es) = none_after k es
 
 -- no exit past the last state's
 unfoldable pub no_more_exits : Model → Bool
-no_more_exits m = none_after (exits_in_all m) m.targets && none_after (exits_in_all m) m.senders && none_after (exits_in_all m) m.types
+no_more_exits m = none_after (exits_in_all m) m.exits
 
 unfoldable pub valid : Model → Bool
 valid m =
@@ -172,7 +172,5 @@ pub record Held (m : Model) : Type 0 where
   pub subjects : length m.subjects ≡ most_subjects
   pub states : length m.states ≡ state_places
   pub rows : (s : ℕ) → s < most_subjects → length (subject_at m s).row ≡ most_rows
-  pub targets : length m.targets ≡ most_exits_in_all
-  pub senders : length m.senders ≡ most_exits_in_all
-  pub types : length m.types ≡ most_exits_in_all
+  pub exits : length m.exits ≡ most_exits_in_all
   pub afters : (p : ℕ) → p < state_places → (stored_at m p).after < 65536

@@ -3,11 +3,11 @@ ghost use Rattle.std.specs.Prelude.{◌≡◌};
 ghost use Rattle.model.specs.Loading.{empty_model, not_loaded, across_or, loaded};
 
 use super::sizes::{MOST_EXITS_IN_ALL, MOST_SUBJECTS, STATE_PLACES};
-use super::{Loaded, Model, decoded, records, stages, valid};
-use blocks::Verdict;
-use sets::Found;
+use super::{Exit, Loaded, Model, decoded, records, stages, valid};
+use blocks::Fault;
 
 // A model with no subjects.
+#[tactic(auto, unfolding(crate::specs::Loading::empty_model))]
 fn empty_model() -> Model
     ensures { result ≡ empty_model }
 {
@@ -18,19 +18,17 @@ fn empty_model() -> Model
         start: 0,
         subjects: [subject; MOST_SUBJECTS],
         states: [state; STATE_PLACES],
-        targets: [0; MOST_EXITS_IN_ALL],
-        senders: [0; MOST_EXITS_IN_ALL],
-        types: [0; MOST_EXITS_IN_ALL],
+        exits: [Exit::default(); MOST_EXITS_IN_ALL],
     }
 }
 
 // A file is refused: the empty model, and why.
-fn not_loaded(why: Verdict) -> Loaded
+fn not_loaded(why: Fault) -> Loaded
     ensures { result ≡ not_loaded why }
 {
     Loaded {
         model: empty_model(),
-        verdict: why,
+        verdict: Err(why),
     }
 }
 
@@ -39,15 +37,13 @@ fn across_or(file: &[u8]) -> Loaded
     ensures { result ≡ across_or file.now }
 {
     let model = decoded::model(file);
-    if !decoded::in_place(file, model) {
-        return not_loaded(Verdict::Across);
-    }
-    if !valid::is_valid(model) {
-        return not_loaded(Verdict::Across);
-    }
-    Loaded {
-        model,
-        verdict: Verdict::Good,
+    if decoded::in_place(file, &model) && valid::is_valid(model) {
+        Loaded {
+            model,
+            verdict: Ok(()),
+        }
+    } else {
+        not_loaded(Fault::Across)
     }
 }
 
@@ -56,19 +52,16 @@ pub fn load(file: &[u8]) -> Loaded
     ensures { result ≡ loaded file.now }
 {
     if !stages::length_right(file) {
-        return not_loaded(Verdict::Length);
+        return not_loaded(Fault::Length);
     }
-    let check = stages::first_bad_check(file);
-    if let Found::At(b) = check {
-        return not_loaded(Verdict::Check(b));
+    if let Some(b) = stages::first_bad_check(file) {
+        return not_loaded(Fault::Check(b));
     }
-    let block = stages::first_bad_block(file);
-    if let Found::At(b) = block {
-        return not_loaded(Verdict::Block(b));
+    if let Some(b) = stages::first_bad_block(file) {
+        return not_loaded(Fault::Block(b));
     }
-    let record = stages::first_bad_record(file);
-    if let Found::At(b) = record {
-        return not_loaded(Verdict::Record(b));
+    if let Some(b) = stages::first_bad_record(file) {
+        return not_loaded(Fault::Record(b));
     }
     across_or(file)
 }

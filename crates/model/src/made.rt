@@ -10,20 +10,8 @@ use super::{Exit, Row, Stored, Subject};
 pub(crate) fn header_record(n: u8, start: u16) -> [u8; RECORD_BYTES]
     ensures { result ≡ header_record n start }
 {
-    [
-        n,
-        (start % 256) as u8,
-        (start / 256) as u8,
-        0,
-        0,
-        0,
-        0,
-        0,
-        0,
-        0,
-        0,
-        0,
-    ]
+    let [low, high] = start.to_le_bytes();
+    [n, low, high, 0, 0, 0, 0, 0, 0, 0, 0, 0]
 }
 
 // The header record of subject s.
@@ -34,9 +22,12 @@ pub(crate) fn subject_record(s: u8, sub: Subject) -> [u8; RECORD_BYTES]
 }
 
 // The record of state t of subject s.
+#[tactic(auto, unfolding(crate::specs::Records::with_exits))]
 pub(crate) fn state_record(s: u8, t: u8, st: Stored) -> [u8; RECORD_BYTES]
     ensures { result ≡ state_record s t (with_exits st []) }
 {
+    let [after, after_high] = st.after.to_le_bytes();
+    let [receivers, receivers_high] = st.receivers.to_le_bytes();
     [
         s,
         t,
@@ -44,12 +35,12 @@ pub(crate) fn state_record(s: u8, t: u8, st: Stored) -> [u8; RECORD_BYTES]
         st.exits,
         st.sender,
         st.typ,
-        (st.after % 256) as u8,
-        (st.after / 256) as u8,
+        after,
+        after_high,
         st.timeout,
         st.cancel,
-        (st.receivers % 256) as u8,
-        (st.receivers / 256) as u8,
+        receivers,
+        receivers_high,
     ]
 }
 

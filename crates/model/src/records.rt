@@ -1,8 +1,8 @@
 // What a record says, and its place in the order.
 ghost use Rattle.std.specs.Prelude.{◌≡◌};
-ghost use Rattle.model.specs.Records.{blank_exits, blank_rows, blank_stored, blank_subject, stored_of, with_exits, state_of, exit_of, row_of, state_key, full_key, order_of};
+ghost use Rattle.model.specs.Records.{blank_exits, blank_stored, blank_subject, stored_of, with_exits, state_of, exit_of, row_of, state_key, full_key, order_of};
 
-use super::sizes::{MOST_EXITS, MOST_ROWS};
+use super::sizes::MOST_EXITS;
 use super::{Exit, Row, State, Stored, Subject};
 use sets::{byte, word};
 
@@ -10,56 +10,25 @@ use sets::{byte, word};
 pub(crate) fn blank_exits() -> [Exit; MOST_EXITS]
     ensures { result ≡ blank_exits }
 {
-    let none = Exit {
-        target: 0,
-        sender: 0,
-        typ: 0,
-    };
-    [none; MOST_EXITS]
-}
-
-// No limit rows.
-pub(crate) fn blank_rows() -> [Row; MOST_ROWS]
-    ensures { result ≡ blank_rows }
-{
-    let none = Row {
-        sender: 0,
-        typ: 0,
-        limit: 0,
-    };
-    [none; MOST_ROWS]
+    [Exit::default(); MOST_EXITS]
 }
 
 // An unused state.
 pub(crate) fn blank_stored() -> Stored
     ensures { result ≡ blank_stored }
 {
-    Stored {
-        kind: 0,
-        exits: 0,
-        sender: 0,
-        typ: 0,
-        after: 0,
-        timeout: 0,
-        cancel: 0,
-        receivers: 0,
-        first: 0,
-    }
+    Stored::default()
 }
 
 // An unused subject.
 pub(crate) fn blank_subject() -> Subject
     ensures { result ≡ blank_subject }
 {
-    Subject {
-        states: 0,
-        initial: 0,
-        rows: 0,
-        row: blank_rows(),
-    }
+    Subject::default()
 }
 
 // The state of a state record as a model keeps it: its exits begin at `first`.
+#[tactic(auto, unfolding(crate::specs::Records::stored_of))]
 pub(crate) fn stored_of(r: &[u8], first: u16) -> Stored
     ensures { result ≡ stored_of r.now first }
 {
@@ -77,6 +46,7 @@ pub(crate) fn stored_of(r: &[u8], first: u16) -> Stored
 }
 
 // A state with the given exits.
+#[tactic(auto, unfolding(crate::specs::Records::with_exits))]
 pub(crate) fn with_exits(st: Stored, exit: [Exit; MOST_EXITS]) -> State
     ensures { result ≡ with_exits st exit }
 {
@@ -94,6 +64,7 @@ pub(crate) fn with_exits(st: Stored, exit: [Exit; MOST_EXITS]) -> State
 }
 
 // The state of a state record, with the given exits.
+#[tactic(auto, unfolding(crate::specs::Records::state_of))]
 pub(crate) fn state_of(r: &[u8], exit: [Exit; MOST_EXITS]) -> State
     ensures { result ≡ state_of r.now exit }
 {
@@ -101,6 +72,7 @@ pub(crate) fn state_of(r: &[u8], exit: [Exit; MOST_EXITS]) -> State
 }
 
 // The exit of an exit record.
+#[tactic(auto, unfolding(crate::specs::Records::exit_of))]
 pub(crate) fn exit_of(r: &[u8]) -> Exit
     ensures { result ≡ exit_of r.now }
 {
@@ -112,6 +84,7 @@ pub(crate) fn exit_of(r: &[u8]) -> Exit
 }
 
 // The row of a limit record.
+#[tactic(auto, unfolding(crate::specs::Records::row_of))]
 pub(crate) fn row_of(r: &[u8]) -> Row
     ensures { result ≡ row_of r.now }
 {
@@ -126,25 +99,26 @@ pub(crate) fn row_of(r: &[u8]) -> Row
 pub(crate) fn state_key(r: &[u8]) -> u16
     ensures { result ≡ state_key r.now }
 {
-    word(byte(r, 1), byte(r, 0))
+    u16::from_be_bytes([byte(r, 0), byte(r, 1)])
 }
 
 // Subject, state and exit, or owner, sender and type, as one number.
 pub(crate) fn full_key(r: &[u8]) -> u32
     ensures { result ≡ full_key r.now }
 {
-    byte(r, 2) as u32 + 256 * (state_key(r) as u32)
+    u32::from_be_bytes([0, byte(r, 0), byte(r, 1), byte(r, 2)])
 }
 
 // What the records of kind k ascend by; 0 stands before the first record.
+#[tactic(auto, unfolding(crate::specs::Records::order_of))]
 pub(crate) fn order_of(k: u8, r: &[u8]) -> u32
     ensures { result ≡ order_of k r.now }
 {
-    if r.len() == 0 {
-        return 0;
+    if r.is_empty() {
+        0
+    } else if k == 2 {
+        state_key(r) as u32 + 1
+    } else {
+        full_key(r) + 1
     }
-    if k == 2 {
-        return state_key(r) as u32 + 1;
-    }
-    full_key(r) + 1
 }

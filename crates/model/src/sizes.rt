@@ -15,8 +15,6 @@ pub const MOST_SUBJECTS: usize = 16;
 
 pub const MOST_STATES: usize = 32;
 
-pub(crate) const LAST_STATE: usize = MOST_STATES - 1;
-
 // Places for states: those of subject s from s * MOST_STATES on.
 pub const STATE_PLACES: usize = 512;
 
@@ -43,7 +41,7 @@ pub(crate) const END_KIND: u8 = 7;
 // Keys of states: subject and state as one number.
 pub(crate) const KEYS: usize = 65536;
 
-// Sizes beside numbers of one byte.
+// The same sizes beside numbers of one byte, each made of the one above: a cast at each use is no plainer.
 pub(crate) const MOST_SUBJECTS_U8: u8 = MOST_SUBJECTS as u8;
 
 pub(crate) const MOST_STATES_U8: u8 = MOST_STATES as u8;

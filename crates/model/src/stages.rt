@@ -4,44 +4,35 @@ ghost use Rattle.sets.specs.Below.{first_not};
 ghost use Rattle.blocks.specs.Blocks.{blocks, block_of, check_right, kind_of};
 ghost use Rattle.model.specs.Stages.{length_right, kind_right, full_right, block_right, record_before, Kinds, header_right, exit_right, limit_right, fields_right, record_right, records_right};
 
+use super::kinds::Records;
 use super::sizes::{
     BLOCK_BYTES, KEYS, LAST_RECORD, MOST_BLOCKS, MOST_RECORDS, MOST_STATES_U8, MOST_SUBJECTS_U8,
 };
 use super::{records, rules};
 use blocks::{block, record};
-use sets::{Found, both, byte, is_within, is_zero, rest};
+use sets::{byte, is_within, is_zero, rest};
 
 // 1: the length is 1 to 43 whole blocks.
+#[tactic(auto, unfolding(crate::specs::Stages::length_right))]
 pub(crate) fn length_right(file: &[u8]) -> bool
     ensures { result ≡ length_right file.now }
 {
     let n = file.len() / BLOCK_BYTES;
-    both(
-        file.len() % BLOCK_BYTES == 0,
-        both(1 <= n, n <= MOST_BLOCKS),
-    )
+    file.len() % BLOCK_BYTES == 0 && 1 <= n && n <= MOST_BLOCKS
 }
 
 // The first block whose check is wrong.
-pub(crate) fn first_bad_check(file: &[u8]) -> Found
+pub(crate) fn first_bad_check(file: &[u8]) -> Option<usize>
     ensures { result ≡ first_not (λ b. check_right (block_of file.now b)) (blocks file.now) }
 {
-    let n = file.len() / BLOCK_BYTES;
-    let mut b = 0;
-    while b < n {
-        if !blocks::check_right(block(file, b)) {
-            return Found::At(b);
-        }
-        b += 1;
-    }
-    Found::Nothing
+    (0..file.len() / BLOCK_BYTES).find(|&b| !blocks::check_right(block(file, b)))
 }
 
 // One less, and 0 for 0.
 fn before(k: usize) -> usize
     ensures { result ≡ k - 1 }
 {
-    if k == 0 { 0 } else { k - 1 }
+    k.saturating_sub(1)
 }
 
 // The kind of block b; 0 where it is not whole.
@@ -52,50 +43,47 @@ pub(crate) fn kind_of(file: &[u8], b: usize) -> u8
 }
 
 // Block 0, and only it, is the header; later kinds are 2 to 4 and never fall.
+#[tactic(auto, unfolding(crate::specs::Stages::kind_right))]
 fn kind_right(b: usize, before: u8, kind: u8) -> bool
     ensures { result ≡ kind_right b before kind }
 {
     if b == 0 {
-        return kind == 1;
+        kind == 1
+    } else {
+        is_within(2, kind, 4) && before <= kind
     }
-    both(is_within(2, kind, 4), before <= kind)
 }
 
 // A block is full, or the next one is not of its kind.
+#[tactic(auto, unfolding(crate::specs::Stages::full_right))]
 fn full_right(used: u8, kind: u8, after: u8) -> bool
     ensures { result ≡ full_right used kind after }
 {
-    sets::either(used == MOST_RECORDS, after != kind)
+    used == MOST_RECORDS || after != kind
 }
 
 // 3: block b is right, between the one before it and the one after it.
+#[tactic(auto, unfolding(crate::specs::Stages::block_right))]
 fn block_right(file: &[u8], b: usize) -> bool
     requires { b < blocks file.now }
     ensures { result ≡ block_right file.now b }
 {
     let part = block(file, b);
     let kind = byte(part, 2);
-    let ordered = kind_right(b, kind_of(file, before(b)), kind);
-    let full = full_right(byte(part, 3), kind, kind_of(file, b + 1));
-    both(both(blocks::room_right(b, part), ordered), full)
+    blocks::room_right(b, part)
+        && kind_right(b, kind_of(file, before(b)), kind)
+        && full_right(byte(part, 3), kind, kind_of(file, b + 1))
 }
 
 // The first block that is wrong.
-pub(crate) fn first_bad_block(file: &[u8]) -> Found
+pub(crate) fn first_bad_block(file: &[u8]) -> Option<usize>
     ensures { result ≡ first_not (block_right file.now) (blocks file.now) }
 {
-    let n = file.len() / BLOCK_BYTES;
-    let mut b = 0;
-    while b < n {
-        if !block_right(file, b) {
-            return Found::At(b);
-        }
-        b += 1;
-    }
-    Found::Nothing
+    (0..file.len() / BLOCK_BYTES).find(|&b| !block_right(file, b))
 }
 
 // The record before record i of block b, of the same kind; nothing before the first.
+#[tactic(auto, unfolding(crate::specs::Stages::record_before))]
 fn record_before<'a>(file: &'a [u8], b: usize, i: usize) -> &'a [u8]
     ensures { result.now ≡ record_before file.now b i }
 {
@@ -113,77 +101,60 @@ fn record_before<'a>(file: &'a [u8], b: usize, i: usize) -> &'a [u8]
 fn kinds(file: &[u8]) -> [u8; KEYS]
     ensures { Kinds file.now result }
 {
-    let first = blocks::first_block(file, 2);
-    let count = blocks::count_of(file, 2);
-    let mut kinds = [0u8; KEYS];
-    let mut j = 0;
-    while j < count {
-        let r = blocks::record_from(file, first, j);
-        let key = records::state_key(r) as usize;
-        kinds[key] = byte(r, 2);
-        j += 1;
+    let states: Records<'_, 2> = Records::of(file);
+    let mut kinds = [0; KEYS];
+    for j in 0..states.count {
+        let r = states.get(j);
+        kinds[records::state_key(r) as usize] = byte(r, 2);
     }
     kinds
 }
 
 // Header record i, of as many as are used.
+#[tactic(auto, unfolding(crate::specs::Stages::header_right))]
 fn header_right(used: u8, i: usize, r: &[u8]) -> bool
     ensures { result ≡ header_right used i r.now }
 {
-    let zero = is_zero(rest(r, 3));
     let first = byte(r, 0);
-    if i == 0 {
-        return both(
-            both(
-                is_within(1, first, MOST_SUBJECTS_U8),
-                used as usize == first as usize + 1,
-            ),
-            zero,
-        );
-    }
-    both(
-        both(
-            first as usize + 1 == i,
-            is_within(1, byte(r, 1), MOST_STATES_U8),
-        ),
-        zero,
-    )
+    let fits = if i == 0 {
+        is_within(1, first, MOST_SUBJECTS_U8) && used as usize == first as usize + 1
+    } else {
+        first as usize + 1 == i && is_within(1, byte(r, 1), MOST_STATES_U8)
+    };
+    fits && is_zero(rest(r, 3))
 }
 
 // An exit of a state of the given kind; nothing is asked where that state is missing.
+#[tactic(auto, unfolding(crate::specs::Stages::exit_right))]
 fn exit_right(kind: u8, r: &[u8]) -> bool
     ensures { result ≡ exit_right kind r.now }
 {
-    let e = records::exit_of(r);
-    let fits = rules::exit_fits(kind, e);
-    sets::either(kind == 0, both(fits, is_zero(rest(r, 6))))
+    kind == 0 || (rules::exit_fits(kind, records::exit_of(r)) && is_zero(rest(r, 6)))
 }
 
 // A limit record by itself.
+#[tactic(auto, unfolding(crate::specs::Stages::limit_right))]
 fn limit_right(r: &[u8]) -> bool
     ensures { result ≡ limit_right r.now }
 {
-    let w = records::row_of(r);
-    both(rules::row_fits(w), is_zero(rest(r, 4)))
+    rules::row_fits(records::row_of(r)) && is_zero(rest(r, 4))
 }
 
 // The fields of a record of kind k that is no header.
+#[tactic(auto, unfolding(crate::specs::Stages::fields_right))]
 fn fields_right(file: &[u8], k: u8, r: &[u8], kinds: &[u8]) -> bool
     requires { Kinds file.now kinds.now }
     ensures { result ≡ fields_right file.now k r.now }
 {
-    if k == 2 {
-        let none = records::blank_exits();
-        return rules::state_fits(records::state_of(r, none));
+    match k {
+        2 => rules::state_fits(records::state_of(r, records::blank_exits())),
+        3 => exit_right(byte(kinds, records::state_key(r) as usize), r),
+        _ => limit_right(r),
     }
-    if k == 3 {
-        let own = byte(kinds, records::state_key(r) as usize);
-        return exit_right(own, r);
-    }
-    limit_right(r)
 }
 
 // 4: record i of block b is right.
+#[tactic(auto, unfolding(crate::specs::Stages::record_right))]
 fn record_right(file: &[u8], b: usize, i: usize, kinds: &[u8]) -> bool
     requires { Kinds file.now kinds.now }
     ensures { result ≡ record_right file.now b i }
@@ -196,28 +167,23 @@ fn record_right(file: &[u8], b: usize, i: usize, kinds: &[u8]) -> bool
     }
     let earlier = records::order_of(k, record_before(file, b, i));
     let here = records::order_of(k, r);
-    both(earlier < here, fields_right(file, k, r, kinds))
+    earlier < here && fields_right(file, k, r, kinds)
 }
 
 // The first block with a record that is wrong.
-pub(crate) fn first_bad_record(file: &[u8]) -> Found
+pub(crate) fn first_bad_record(file: &[u8]) -> Option<usize>
     ensures { result ≡ first_not (records_right file.now) (blocks file.now) }
 {
     let kinds = kinds(file);
     let n = file.len() / BLOCK_BYTES;
-    let mut found = Found::Nothing;
-    let mut b = 0;
-    'search: while b < n {
-        let used = byte(block(file, b), 3) as usize;
-        let mut i = 0;
-        while i < used {
+    let mut found = None;
+    'search: for b in 0..n {
+        for i in 0..byte(block(file, b), 3) as usize {
             if !record_right(file, b, i, &kinds) {
-                found = Found::At(b);
+                found = Some(b);
                 break 'search;
             }
-            i += 1;
         }
-        b += 1;
     }
     found
 }

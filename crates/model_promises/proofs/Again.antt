@@ -16,10 +16,10 @@ use Rattle.sets.proofs.Bytes.{Bytes, byte_at, bytes_by}
 use Rattle.sets.proofs.Groups.{lined_at, spot}
 use Rattle.blocks.specs.Blocks.{blocks, kind_of, used_of, record_of, first_block, record_no, count_of}
 use Rattle.blocks.proofs.BlockLaws.{record_from_bytes}
-use Rattle.model.specs.Decoded.{subjects_in, limits_in, rows_in, subject_in, states_in, state_record_in, exits_in, stored_in, exit_bytes, model_of, owner_there}
+use Rattle.model.specs.Decoded.{subjects_in, limits_in, rows_in, subject_in, states_in, state_record_in, exits_in, stored_in, all_exits, model_of, owner_there}
 use Rattle.blocks.specs.Made.{two_bytes}
 use Rattle.model.specs.File.{header_record, subject_record, state_record, exit_record, limit_record, headers, state_records, exit_records, limit_records, records_of}
-use Rattle.model.specs.Records.{stored_of, with_exits, exit_of, row_of, state_key}
+use Rattle.model.specs.Records.{blank_exit, stored_of, with_exits, exit_of, row_of, state_key}
 use Rattle.model.specs.Valid.{no_subject, subject_at, stored_at, exit_no, state_at, exit_at, row_at, Held}
 use Rattle.model.specs.declared.Exit.{Exit}
 use Rattle.model.specs.declared.Model.{Model}
@@ -224,12 +224,9 @@ module _ (file : List ℕ) (bytes : AreBytes file) (p1 : Passes1 file) (p3 : Pas
   count_exits = omega (arith, pl.exits, good.exits, sum_same (exits_in file) (exits_of m) 512 exits_same)
 
   -- exit j of the model is what record j says
-  exit_says : (j : ℕ) → j < count_of file 3 → exit_no m.targets m.senders m.types j ≡ exit_of (record_no file 3 j)
-  unfolding model_of exit_bytes exit_of
-  exit_says j h =
-      let at : (f : ℕ) → get_or (exit_bytes file f) j 0 ≡ get_or (record_no file 3 j) f 0 =
-      λ f. in_there 1024 0 (count_of file 3) (λ i. get_or (record_no file 3 i) f 0) j (omega (arith, count_exits)) h in
-      rw (at 3, at 4, at 5)
+  exit_says : (j : ℕ) → j < count_of file 3 → exit_no m.exits j ≡ exit_of (record_no file 3 j)
+  unfolding model_of all_exits
+  exit_says j h = in_there 1024 blank_exit (count_of file 3) (λ i. exit_of (record_no file 3 i)) j (omega (arith, count_exits)) h
 
   -- so the record of an exit is made again
   exit_made : (q x : ℕ) → q < 512 → x < exits_in file q → record_no file 3 (place_in (exits_in file) q x) ≡ exit_record (q / 32) (q % 32) x (exit_at (state_at m q) x)
@@ -240,7 +237,7 @@ module _ (file : List ℕ) (bytes : AreBytes file) (p1 : Passes1 file) (p3 : Pas
       let there = exit_place file bytes p1 p3 p4 pl q x l h in
       let key = exit_key file bytes p1 p3 p4 pl q x l few h in
       let place : place_in (exits_of m) q x ≡ place_in (exits_in file) q x = ap (λ (i : ℕ). i + x) (before_is file q (omega arith)) in
-      let says = exit_is m good q x l own ∙ ap (exit_no m.targets m.senders m.types) place ∙ exit_says (place_in (exits_in file) q x) there in
+      let says = exit_is m good q x l own ∙ ap (exit_no m.exits) place ∙ exit_says (place_in (exits_in file) q x) there in
       rw says
       (sym (exit_again (record_no file 3 (place_in (exits_in file) q x)) (a_twelve 3 (place_in (exits_in file) q x) there) (q / 32) (q % 32) x (omega arith) key.0 key.1
       (exit_both file bytes p1 p3 p4 pl q x l few h has).right))

@@ -15,8 +15,8 @@ use Rattle.sets.proofs.Tests.{and_true}
 use Rattle.sets.proofs.Below.{table_at, table_of, length_table, sum_same, sum_grows, sum_has, all_by}
 use Rattle.sets.proofs.Groups.{lined_at, length_lined, Spot, spot, count_group}
 use Rattle.blocks.specs.Blocks.{first_block, record_of, record_no, count_of}
-use Rattle.model.specs.Records.{blank_exit, blank_row, blank_stored, stored_of, with_exits, row_of, full_key}
-use Rattle.model.specs.Decoded.{subjects_in, limits_in, rows_in, rows_from, subject_in, states_in, has_state, state_record_in, exits_in, stored_in, exit_bytes, model_of, state_named, exits_named, exits_named_in, owner_there, states_in_place, exits_in_place, limits_in_place, in_place}
+use Rattle.model.specs.Records.{blank_exit, blank_row, blank_stored, stored_of, with_exits, exit_of, row_of, full_key}
+use Rattle.model.specs.Decoded.{subjects_in, limits_in, rows_in, rows_from, subject_in, states_in, has_state, state_record_in, exits_in, stored_in, all_exits, model_of, state_named, exits_named, exits_named_in, owner_there, states_in_place, exits_in_place, limits_in_place, in_place}
 use Rattle.model.specs.Valid.{subject_at, stored_at, exit_no, state_at, exit_at, row_at, no_subject, Held}
 use Rattle.model.specs.File.{header_record, subject_record, state_record, exit_record, limit_record, headers, state_records, exit_records, limit_records, records_of}
 use Rattle.model.specs.declared.Exit.{Exit}
@@ -206,7 +206,7 @@ module _ (m : Model) (held : Held m) (good : GoodModel m) (file : List ℕ) (pk 
 
   -- exit j of the model
   abbrev exit_of_all : ℕ → Exit
-  exit_of_all j = exit_no m.targets m.senders m.types j
+  exit_of_all j = exit_no m.exits j
 
   -- the record of exit j
   exit_there : (j : ℕ) (s : Spot exits 512 j) → record_no file 3 j ≡ exit_record (s.g / 32) (s.g % 32) s.k (exit_of_all j)
@@ -214,17 +214,16 @@ module _ (m : Model) (held : Held m) (good : GoodModel m) (file : List ℕ) (pk 
       ap (record_no file 3) (sym s.place) ∙ exit_record_lem s.g s.k s.group s.inside
       ∙ ap (exit_record (s.g / 32) (s.g % 32) s.k) (exit_is m good s.g s.k s.group s.inside ∙ ap exit_of_all s.place)
 
-  -- the bytes f of the exit records are a list of the model's, where each says the same part of an exit
-  part_back : (f : ℕ) (part : Exit → ℕ) (bytes : List ℕ) → length bytes ≡ 1024 → part blank_exit ≡ 0 → ((j : ℕ) → part (exit_of_all j) ≡ get_or bytes j 0)
-      → ((s t x : ℕ) (e : Exit) → get_or (exit_record s t x e) f 0 ≡ part e) → exit_bytes file f ≡ bytes
-  unfolding exit_bytes in_places
-  part_back f part bytes long blank each says =
-      rw count_exits (table_of _ 1024 0 bytes long (λ j lj. go j lj (ltb j (sum_below exits 512)) refl))
+  -- the exits of the exit records are those of the model
+  all_back : all_exits file ≡ m.exits
+  unfolding all_exits in_places exit_of
+  all_back =
+      rw count_exits (table_of _ 1024 blank_exit m.exits held.exits (λ j lj. go j lj (ltb j (sum_below exits 512)) refl))
     where
       go : (j : ℕ) → j < 1024 → (b : Bool) → ltb j (sum_below exits 512) ≡ b
-          → cond (ltb j (sum_below exits 512)) (get_or (record_no file 3 j) f 0) 0 ≡ get_or bytes j 0
-      go j lj true e = rw (e, exit_there j (spot exits 512 j (ltb-true _ _ e))) (says _ _ _ _ ∙ each j)
-      go j lj false e = rw e (sym blank ∙ ap part (sym (good.no_more j (ltb-false _ _ e))) ∙ each j)
+          → cond (ltb j (sum_below exits 512)) (exit_of (record_no file 3 j)) blank_exit ≡ exit_of_all j
+      go j lj true e = rw (e, exit_there j (spot exits 512 j (ltb-true _ _ e)))
+      go j lj false e = rw e (sym (good.no_more j (ltb-false _ _ e)))
 
   -- ---- all of it
 
@@ -235,10 +234,7 @@ module _ (m : Model) (held : Held m) (good : GoodModel m) (file : List ℕ) (pk 
       let b = ap (λ (r : List ℕ). get_or r 1 0 + 256 * get_or r 2 0) header_first ∙ word_back m.start in
       let c = table_of (subject_in file) 16 no_subject m.subjects held.subjects subject_back in
       let d = table_of (stored_in file) 512 blank_stored m.states held.states stored_back in
-      let x = part_back 3 (λ e. e.target) m.targets held.targets refl (λ j. refl) (λ s t x e. refl) in
-      let y = part_back 4 (λ e. e.sender) m.senders held.senders refl (λ j. refl) (λ s t x e. refl) in
-      let z = part_back 5 (λ e. e.typ) m.types held.types refl (λ j. refl) (λ s t x e. refl) in
-      λ i. record { n = a i; start = b i; subjects = c i; states = d i; targets = x i; senders = y i; types = z i }
+      λ i. record { n = a i; start = b i; subjects = c i; states = d i; exits = all_back i }
 
   -- ---- each record stands where the model has its thing
 

@@ -1,4 +1,5 @@
 -- What loads is valid, a valid model is loaded from its own file, and each verdict means what it says.
+use Rattle.std.specs.Prelude.{Option, Some, None, Ok, Err}
 use mathlib.Core.Path.{◌≡◌, refl, sym, ap, subst, ◌∙◌}
 use mathlib.Core.Bool.{Bool, true, false, cond}
 use mathlib.Core.List.{List}
@@ -10,13 +11,11 @@ use Rattle.sets.proofs.Bytes.{byte_at, bytes_by}
 use Rattle.sets.specs.Below.{first_not}
 use Rattle.sets.specs.Groups.{place_in}
 use Rattle.sets.proofs.Groups.{length_in_places}
-use Rattle.sets.specs.declared.Found.{Found}
-use Rattle.sets.specs.declared.Found.TheVariants.{At, Nothing}
 use Rattle.sets.proofs.Tests.{and_true, and_both, choose}
 use Rattle.sets.proofs.Below.{first_each, first_is, first_by, first_found, length_table, table_at}
 use Rattle.blocks.proofs.BlockLaws.{record_from_bytes}
 use Rattle.blocks.specs.Blocks.{blocks, block_of, check_right, first_block}
-use Rattle.model.specs.Decoded.{subjects_in, rows_from, subject_in, states_in, has_state, stored_in, exit_bytes, model_of, in_place}
+use Rattle.model.specs.Decoded.{subjects_in, rows_from, subject_in, states_in, has_state, stored_in, all_exits, model_of, in_place}
 use Rattle.model.specs.Records.{blank_stored, stored_of}
 use Rattle.model.specs.Loading.{loaded, across_right, across_or, not_loaded, unless_at, empty_model}
 use Rattle.model.specs.Stages.{length_right, block_right, records_right}
@@ -26,8 +25,9 @@ use Rattle.model.specs.declared.Loaded.{Loaded}
 use Rattle.model.specs.declared.Model.{Model}
 use Rattle.model.specs.declared.Stored.{Stored}
 use Rattle.model.specs.declared.Subject.{Subject}
-use Rattle.blocks.specs.declared.Verdict.{Verdict}
-use Rattle.blocks.specs.declared.Verdict.TheVariants.{Good, Length, Check, Block, Record, Across}
+use Rattle.blocks.specs.Verdicts.{Verdict, no_fault}
+use Rattle.blocks.specs.declared.Fault.TheVariants.{Length, Check, Block, Record, Across}
+use Rattle.blocks.specs.declared.Fault.{Fault}
 use Rattle.model_promises.specs.Loads.{AreBytes, LoadsTo, Passes1, Passes2, Passes3, Passes4, FirstWrong, Means, wrong_length, wrong_check, wrong_block, wrong_record, wrong_across, all_right}
 use Rattle.model_promises.specs.Promises.{VerdictMeans, VerdictMeant, RefusedEmpty, LoadsValid, LoadsHeld, ValidLoads, ValidExactly}
 use Rattle.model_promises.proofs.Back.{model_back, place_back}
@@ -38,7 +38,7 @@ use Rattle.model_promises.proofs.Right as right
 
 -- ---- what each verdict means
 
-first_wrong : (p : ℕ → Bool) (file : List ℕ) (b : ℕ) → first_not p (blocks file) ≡ At b → FirstWrong (λ a. p a ≡ true) (λ a. p a ≡ false) file b
+first_wrong : (p : ℕ → Bool) (file : List ℕ) (b : ℕ) → first_not p (blocks file) ≡ Some b → FirstWrong (λ a. p a ≡ true) (λ a. p a ≡ false) file b
 first_wrong p file b h = let f = first_is p (blocks file) b h in record { there = f.below; is_wrong = f.fails; before = f.before }
 
 pub means : VerdictMeans
@@ -46,29 +46,29 @@ unfolding loaded across_or
 means file = one (length_right file) refl
   where
     last : Passes1 file → Passes2 file → Passes3 file → Passes4 file → (x : Bool) → across_right file ≡ x → Means file (across_or file).verdict
-    last p1 p2 p3 p4 true e = subst (λ (x : Bool). Means file (cond x (record { model = model_of file; verdict = Good }) (not_loaded Across)).verdict) (sym e) (all_right p1 p2 p3 p4 e)
-    last p1 p2 p3 p4 false e = subst (λ (x : Bool). Means file (cond x (record { model = model_of file; verdict = Good }) (not_loaded Across)).verdict) (sym e) (wrong_across p1 p2 p3 p4 e)
+    last p1 p2 p3 p4 true e = subst (λ (x : Bool). Means file (cond x (record { model = model_of file; verdict = no_fault }) (not_loaded Across)).verdict) (sym e) (all_right p1 p2 p3 p4 e)
+    last p1 p2 p3 p4 false e = subst (λ (x : Bool). Means file (cond x (record { model = model_of file; verdict = no_fault }) (not_loaded Across)).verdict) (sym e) (wrong_across p1 p2 p3 p4 e)
 
-    four : Passes1 file → Passes2 file → Passes3 file → (x : Found) → first_not (records_right file) (blocks file) ≡ x → Means file (unless_at x Record (across_or file)).verdict
-    four p1 p2 p3 (At b) e = wrong_record p1 p2 p3 (first_wrong (records_right file) file b e)
-    four p1 p2 p3 Nothing e = last p1 p2 p3 (first_each (records_right file) (blocks file) e) (across_right file) refl
+    four : Passes1 file → Passes2 file → Passes3 file → (x : Option ℕ) → first_not (records_right file) (blocks file) ≡ x → Means file (unless_at x Record (across_or file)).verdict
+    four p1 p2 p3 (Some b) e = wrong_record p1 p2 p3 (first_wrong (records_right file) file b e)
+    four p1 p2 p3 None e = last p1 p2 p3 (first_each (records_right file) (blocks file) e) (across_right file) refl
 
-    three : Passes1 file → Passes2 file → (x : Found) → first_not (block_right file) (blocks file) ≡ x
+    three : Passes1 file → Passes2 file → (x : Option ℕ) → first_not (block_right file) (blocks file) ≡ x
         → Means file (unless_at x Block (unless_at (first_not (records_right file) (blocks file)) Record (across_or file))).verdict
-    three p1 p2 (At b) e = wrong_block p1 p2 (first_wrong (block_right file) file b e)
-    three p1 p2 Nothing e = four p1 p2 (first_each (block_right file) (blocks file) e) (first_not (records_right file) (blocks file)) refl
+    three p1 p2 (Some b) e = wrong_block p1 p2 (first_wrong (block_right file) file b e)
+    three p1 p2 None e = four p1 p2 (first_each (block_right file) (blocks file) e) (first_not (records_right file) (blocks file)) refl
 
-    two : Passes1 file → (x : Found) → first_not (λ b. check_right (block_of file b)) (blocks file) ≡ x
+    two : Passes1 file → (x : Option ℕ) → first_not (λ b. check_right (block_of file b)) (blocks file) ≡ x
         → Means file (unless_at x Check (unless_at (first_not (block_right file) (blocks file)) Block (unless_at (first_not (records_right file) (blocks file)) Record (across_or file)))).verdict
-    two p1 (At b) e = wrong_check p1 (first_wrong (λ a. check_right (block_of file a)) file b e)
-    two p1 Nothing e = three p1 (first_each (λ a. check_right (block_of file a)) (blocks file) e) (first_not (block_right file) (blocks file)) refl
+    two p1 (Some b) e = wrong_check p1 (first_wrong (λ a. check_right (block_of file a)) file b e)
+    two p1 None e = three p1 (first_each (λ a. check_right (block_of file a)) (blocks file) e) (first_not (block_right file) (blocks file)) refl
 
     one : (x : Bool) → length_right file ≡ x → Means file (loaded file).verdict
     one true e = rw e (two e (first_not (λ b. check_right (block_of file b)) (blocks file)) refl)
     one false e = rw e (wrong_length e)
 
 -- the other way round: a verdict is given where it means what is so
-first_at : (p : ℕ → Bool) (file : List ℕ) (b : ℕ) → FirstWrong (λ a. p a ≡ true) (λ a. p a ≡ false) file b → first_not p (blocks file) ≡ At b
+first_at : (p : ℕ → Bool) (file : List ℕ) (b : ℕ) → FirstWrong (λ a. p a ≡ true) (λ a. p a ≡ false) file b → first_not p (blocks file) ≡ Some b
 first_at p file b w = first_found p b (blocks file) (first_by p b w.before) w.is_wrong w.there
 
 pub meant : VerdictMeant
@@ -109,22 +109,22 @@ never : {A : Type 0} (f : Verdict → ℕ) (v w : Verdict) → v ≡ w → (f v 
 never f v w e h = absurd (h (ap f e))
 
 abbrev is_good : Verdict → ℕ
-is_good Good = 1
-is_good Length = 0
-is_good (Check b) = 0
-is_good (Block b) = 0
-is_good (Record b) = 0
-is_good Across = 0
+is_good (Ok done) = 1
+is_good (Err Length) = 0
+is_good (Err (Check b)) = 0
+is_good (Err (Block b)) = 0
+is_good (Err (Record b)) = 0
+is_good (Err Across) = 0
 
 pub loading : (file : List ℕ) (m : Model) → LoadsTo file m → Loading file m
 loading file m h = go (loaded file).verdict (means file) (ap (λ (x : Loaded). x.verdict) h)
   where
-    go : (v : Verdict) → Means file v → v ≡ Good → Loading file m
-    go v (wrong_length e) g = never is_good Length Good g (λ z. omega arith)
-    go v (wrong_check {b} p w) g = never is_good (Check b) Good g (λ z. omega arith)
-    go v (wrong_block {b} p q w) g = never is_good (Block b) Good g (λ z. omega arith)
-    go v (wrong_record {b} p q r w) g = never is_good (Record b) Good g (λ z. omega arith)
-    go v (wrong_across p q r s e) g = never is_good Across Good g (λ z. omega arith)
+    go : (v : Verdict) → Means file v → v ≡ no_fault → Loading file m
+    go v (wrong_length e) g = never is_good (Err Length) no_fault g (λ z. omega arith)
+    go v (wrong_check {b} p w) g = never is_good (Err (Check b)) no_fault g (λ z. omega arith)
+    go v (wrong_block {b} p q w) g = never is_good (Err (Block b)) no_fault g (λ z. omega arith)
+    go v (wrong_record {b} p q r w) g = never is_good (Err (Record b)) no_fault g (λ z. omega arith)
+    go v (wrong_across p q r s e) g = never is_good (Err Across) no_fault g (λ z. omega arith)
     go v (all_right p1 p2 p3 p4 e) g =
         record {
           model = ap (λ (x : Loaded). x.model) (sym h ∙ good_model file p1 p2 p3 p4 e);
@@ -146,7 +146,7 @@ valid_loads m held ok =
     let pk = packed (records_of m) (sound m held good) in
     let back = model_back m held good (file_of m) pk in
     let across = and_true (place_back m held good (file_of m) pk) (subst (λ (x : Model). valid x ≡ true) (sym back) ok) in
-    (pk.are_bytes, good_model (file_of m) pk.length_right_lem pk.checks pk.blocks_right (right.all_right m held good (file_of m) pk) across ∙ ap (λ (x : Model). record { model = x; verdict = Good }) back)
+    (pk.are_bytes, good_model (file_of m) pk.length_right_lem pk.checks pk.blocks_right (right.all_right m held good (file_of m) pk) across ∙ ap (λ (x : Model). record { model = x; verdict = no_fault }) back)
 
 -- ---- what loads is a model that the machine can hold
 
@@ -162,10 +162,10 @@ state_after file p h =
     (λ _. let b = byte_at (record_from_bytes file (first_block file 2) (place_in (states_in file) (p / 32) (p % 32)) (bytes_by file h)) in omega (arith, b 6, b 7))
     (λ _. omega arith)
 
--- one byte of each exit, in 1,024 places
-exit_bytes_lem : (file : List ℕ) (f : ℕ) → length (exit_bytes file f) ≡ 1024
-unfolding exit_bytes
-exit_bytes_lem file f = length_in_places 1024 _ _ _
+-- the exits, in 1,024 places
+all_exits_lem : (file : List ℕ) → length (all_exits file) ≡ 1024
+unfolding all_exits
+all_exits_lem file = length_in_places 1024 _ _ _
 
 model_held : (file : List ℕ) → AreBytes file → Held (model_of file)
 unfolding model_of
@@ -174,9 +174,7 @@ model_held file h =
       subjects = length_table (subject_in file) 16;
       states = length_table (stored_in file) 512;
       rows = λ s l. rw (table_at (subject_in file) 16 s no_subject l) (subject_row file s);
-      targets = exit_bytes_lem file 3;
-      senders = exit_bytes_lem file 4;
-      types = exit_bytes_lem file 5;
+      exits = all_exits_lem file;
       afters = λ p l. rw (table_at (stored_in file) 512 p blank_stored l) (state_after file p h);
     }
 
@@ -197,8 +195,8 @@ refused_empty file =
     (λ _ h. refl)
   where
     P : Loaded → Type 0
-    P x = (x.verdict ≡ Good → ⊥) → x.model ≡ empty_model
+    P x = (x.verdict ≡ no_fault → ⊥) → x.model ≡ empty_model
 
-    at : (why : ℕ → Verdict) (f : Found) {next : Loaded} → P next → P (unless_at f why next)
-    at why (At b) p = λ h. refl
-    at why Nothing p = p
+    at : (why : ℕ → Fault) (f : Option ℕ) {next : Loaded} → P next → P (unless_at f why next)
+    at why (Some b) p = λ h. refl
+    at why None p = p

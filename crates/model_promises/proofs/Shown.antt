@@ -17,7 +17,7 @@ use Rattle.sets.proofs.Groups.{in_places_at, length_in_places, spot}
 use Rattle.blocks.proofs.BlockLaws.{record_from_bytes}
 use Rattle.blocks.specs.Blocks.{first_block, record_no, count_of}
 use Rattle.model.proofs.BlankLaws.{none_by}
-use Rattle.model.specs.Decoded.{subjects_in, limits_in, rows_in, rows_from, subject_in, states_in, has_state, state_record_in, exits_in, stored_in, exit_bytes, model_of, state_named, exits_named, exits_named_in, owner_there, states_in_place, exits_in_place, limits_in_place, in_place}
+use Rattle.model.specs.Decoded.{subjects_in, limits_in, rows_in, rows_from, subject_in, states_in, has_state, state_record_in, exits_in, stored_in, all_exits, model_of, state_named, exits_named, exits_named_in, owner_there, states_in_place, exits_in_place, limits_in_place, in_place}
 use Rattle.model.specs.Records.{blank_exit, blank_exits, blank_row, blank_stored, state_of, stored_of, with_exits, exit_of, row_of, state_key, full_key}
 use Rattle.model.specs.Rules.{shape_of, state_fits, exit_fits, row_fits}
 use Rattle.model.specs.Stages.{own_kind, exit_right, limit_right, fields_right}
@@ -319,20 +319,20 @@ module _ (file : List ℕ) (bytes : AreBytes file) (p1 : Passes1 file) (p3 : Pas
         go true e = rw e (eq-eqb _ _ (first_is p l))
         go false e = rw e
 
-    -- byte f of exit x of the state at place p is that of its record
-    exit_byte : (f p x : ℕ) → p < 512 → x < exits_in file p
-        → get_or (exit_bytes file f) (sum_below (exits_in file) p % 65536 + x) 0 ≡ get_or (record_no file 3 (exit_no p x)) f 0
-    unfolding exit_bytes
-    exit_byte f p x l h =
+    -- exit x of the state at place p is that of its record
+    exit_says : (p x : ℕ) → p < 512 → x < exits_in file p
+        → get_or (all_exits file) (sum_below (exits_in file) p % 65536 + x) blank_exit ≡ exit_of (record_no file 3 (exit_no p x))
+    unfolding all_exits
+    exit_says p x l h =
         let few = exit_place p x l h in
-        rw (first_is p l) (in_there 1024 0 (count_of file 3) (λ j. get_or (record_no file 3 j) f 0) (exit_no p x) (omega (arith, pl.exits)) few)
+        rw (first_is p l) (in_there 1024 blank_exit (count_of file 3) (λ j. exit_of (record_no file 3 j)) (exit_no p x) (omega (arith, pl.exits)) few)
 
     -- the state at place p as the model shows it
     state_shown : (p : ℕ) → p < 512
-        → ShownState (states_in file (p / 32)) (p % 32) (unpacked (exit_bytes file 3) (exit_bytes file 4) (exit_bytes file 5) (stored_in file p))
+        → ShownState (states_in file (p / 32)) (p % 32) (unpacked (all_exits file) (stored_in file p))
     unfolding stored_in stored_of with_exits state_of exits_from exit_of is_blank_state
     state_shown p l =
-        choose (λ (st : Stored). ShownState (states_in file (p / 32)) (p % 32) (unpacked (exit_bytes file 3) (exit_bytes file 4) (exit_bytes file 5) st)) (has_state file p)
+        choose (λ (st : Stored). ShownState (states_in file (p / 32)) (p % 32) (unpacked (all_exits file) st)) (has_state file p)
         (λ e.
         let h = ltb-true (p % 32) (states_in file (p / 32)) e in
         let exits = get_or (state_record_in file p) 3 0 in
@@ -341,7 +341,7 @@ module _ (file : List ℕ) (bytes : AreBytes file) (p1 : Passes1 file) (p3 : Pas
           gone = λ g. absurd (omega arith);
           exit = λ x m g.
               let i = has_exit p e g in
-              rw (in_there 8 blank_exit exits _ x m g, exit_byte 3 p x l i, exit_byte 4 p x l i, exit_byte 5 p x l i) (exit_both p x l m i h).left;
+              rw (in_there 8 blank_exit exits _ x m g, exit_says p x l i) (exit_both p x l m i h).left;
           blank = λ x m g. rw (in_gone 8 blank_exit exits _ x m g);
         })
         (λ e.
@@ -378,14 +378,14 @@ module _ (file : List ℕ) where
   all_is = before_is 512 (omega arith)
 
   -- past the last exit record the model has zeros
-  none_after_lem : (f : ℕ) → none_after (count_of file 3) (exit_bytes file f) ≡ true
-  unfolding exit_bytes
-  none_after_lem f = none_by _ (count_of file 3) (λ j g. go j g (ltb j 1024) refl)
+  none_after_lem : none_after (count_of file 3) (all_exits file) ≡ true
+  unfolding all_exits
+  none_after_lem = none_by _ (count_of file 3) (λ j g. go j g (ltb j 1024) refl)
     where
-      go : (j : ℕ) → count_of file 3 ≤ j → (b : Bool) → ltb j 1024 ≡ b → get_or (exit_bytes file f) j 0 ≡ 0
-      go j g true e = in_gone 1024 0 (count_of file 3) (λ i. get_or (record_no file 3 i) f 0) j (ltb-true j 1024 e) g
+      go : (j : ℕ) → count_of file 3 ≤ j → (b : Bool) → ltb j 1024 ≡ b → get_or (all_exits file) j blank_exit ≡ blank_exit
+      go j g true e = in_gone 1024 blank_exit (count_of file 3) (λ i. exit_of (record_no file 3 i)) j (ltb-true j 1024 e) g
       go j g false e =
-          get_or-eq_default (exit_bytes file f) 0 (omega (arith, ltb-false j 1024 e, length_in_places 1024 0 (count_of file 3) (λ i. get_or (record_no file 3 i) f 0)))
+          get_or-eq_default (all_exits file) blank_exit (omega (arith, ltb-false j 1024 e, length_in_places 1024 blank_exit (count_of file 3) (λ i. exit_of (record_no file 3 i))))
 
 pub shown : (file : List ℕ) → AreBytes file → Passes1 file → Passes3 file → Passes4 file → in_place file ≡ true → exits_in_all (model_of file) ≤ 1024
     → Shown (model_of file)
@@ -401,5 +401,5 @@ shown file bytes p1 p3 p4 e few =
       first = λ p l.
           rw (table_at (subject_in file) 16 (p / 32) no_subject (omega arith), stored_at_lem file p l, before_is file p (omega arith))
           (first_right_lem file bytes p1 p3 p4 pl fit p l);
-      no_more = rw all (and_true (and_true (none_after_lem file 3) (none_after_lem file 4)) (none_after_lem file 5));
+      no_more = rw all (none_after_lem file);
     }

@@ -25,7 +25,7 @@ p_valid = refl
 unfoldable pub fits_machine : Model → Bool
 fits_machine m =
     (eqb (length m.subjects) most_subjects && eqb (length m.states) state_places)
-    && (eqb (length m.targets) most_exits_in_all && eqb (length m.senders) most_exits_in_all && eqb (length m.types) most_exits_in_all)
+    && eqb (length m.exits) most_exits_in_all
     && (all_below (λ s. eqb (length (subject_at m s).row) most_rows) most_subjects && all_below (λ p. ltb (stored_at m p).after 65536) state_places)
 
 -- the machine can hold a model that passes
@@ -35,16 +35,12 @@ fits_held m h =
     let b = and_both _ _ h in
     let a = and_both _ _ b.left in
     let lengths = and_both _ _ a.left in
-    let types = and_both _ _ a.right in
-    let targets = and_both _ _ types.left in
     let each = and_both _ _ b.right in
     record {
       subjects = eqb-true _ _ lengths.left;
       states = eqb-true _ _ lengths.right;
       rows = λ s l. eqb-true _ _ (all_each (λ s. eqb (length (subject_at m s).row) most_rows) most_subjects each.left s l);
-      targets = eqb-true _ _ targets.left;
-      senders = eqb-true _ _ targets.right;
-      types = eqb-true _ _ types.right;
+      exits = eqb-true _ _ a.right;
       afters = λ p l. ltb-true _ _ (all_each (λ p. ltb (stored_at m p).after 65536) state_places each.right p l);
     }
 

@@ -1,14 +1,12 @@
 -- What is promised of model files, each statement by its name.
-use Rattle.std.specs.Prelude.{◌≡◌, true, false, ◌↔◌, ◌≢◌, List, ℕ, ◌≤◌, ◌<◌, length, get_or, take}
+use Rattle.std.specs.Prelude.{◌≡◌, true, false, ◌↔◌, ◌≢◌, List, ℕ, ◌≤◌, ◌<◌, length, get_or, take, Ok}
 use Rattle.sets.specs.Stores.{onto}
 use Rattle.model.specs.File.{file_of}
 use Rattle.model.specs.Loading.{loaded, across_right, empty_model}
 use Rattle.model.specs.Valid.{valid, Held}
 use Rattle.model.specs.Writing.{refusal_of, length_of, written_as, buffer_of}
 use Rattle.model.specs.declared.Model.{Model}
-use Rattle.model.specs.declared.Written.TheVariants.{Bytes}
-use Rattle.blocks.specs.declared.Verdict.{Verdict}
-use Rattle.blocks.specs.declared.Verdict.TheVariants.{Good}
+use Rattle.blocks.specs.Verdicts.{Verdict, no_fault}
 use Rattle.model_promises.specs.Across.{row_five}
 use Rattle.model_promises.specs.Loads.{AreBytes, LoadsTo, Passes1, Passes3, Passes4, Means}
 use Rattle.model_promises.specs.Samples.{model_p}
@@ -29,7 +27,7 @@ OnlyFive = (file : List ℕ) → AreBytes file → Passes1 file → Passes3 file
 
 -- a file that is refused gives the empty model
 abbrev pub RefusedEmpty : Type 0
-RefusedEmpty = (file : List ℕ) → ((loaded file).verdict ≡ Good → ⊥) → (loaded file).model ≡ empty_model
+RefusedEmpty = (file : List ℕ) → ((loaded file).verdict ≡ no_fault → ⊥) → (loaded file).model ≡ empty_model
 
 -- ---- the model
 
@@ -78,4 +76,4 @@ pub record WritesExactly : Type 0 where
       → LoadsTo (take (length_of (written_as m (length old))) (buffer_of m old)) m
   -- a file of bytes that loads, when written, gives the same bytes
   pub back : (file : List ℕ) (m : Model) (old : List ℕ) → AreBytes file → LoadsTo file m → length file ≤ length old
-      → (written_as m (length old) ≡ Bytes (length file)) × (buffer_of m old ≡ onto file old)
+      → (written_as m (length old) ≡ Ok (length file)) × (buffer_of m old ≡ onto file old)

@@ -1,6 +1,6 @@
 -- Model P of docs/RULES.md.
 use Rattle.std.specs.Prelude.{◌∷◌, ◌++◌, ℕ, replicate}
-use Rattle.model.specs.Records.{blank_row, blank_rows, blank_stored, blank_subject}
+use Rattle.model.specs.Records.{blank_exit, blank_row, blank_rows, blank_stored, blank_subject}
 use Rattle.model.specs.Rules.{any, none, end_kind}
 use Rattle.model.specs.declared.Model.{Model}
 use Rattle.model.specs.declared.Stored.{Stored}
@@ -30,7 +30,9 @@ model_p =
           ++ record { kind = 3; exits = 1; sender = any; typ = any; after = 3; timeout = 1; cancel = none; receivers = 0; first = 2 }
           ∷ end_state 3
           ∷ replicate 478 blank_stored;
-      targets = 1 ∷ 2 ∷ 1 ∷ replicate 1021 0;
-      senders = any ∷ any ∷ 0 ∷ replicate 1021 0;
-      types = any ∷ 0 ∷ 0 ∷ replicate 1021 0;
+      exits =
+          record { target = 1; sender = any; typ = any }
+          ∷ record { target = 2; sender = any; typ = 0 }
+          ∷ record { target = 1; sender = 0; typ = 0 }
+          ∷ replicate 1021 blank_exit;
     }

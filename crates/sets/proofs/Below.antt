@@ -1,4 +1,5 @@
 -- Laws of tests, searches, sums and tables over the numbers below n: a loop's start, its turn and its end, and what the result tells.
+use Rattle.std.specs.Prelude.{Option, Some, None}
 use mathlib.Core.Path.{◌≡◌, refl, sym, ap, subst, ◌∙◌}
 use mathlib.Core.Logic.{◌⊎◌, ⊎_elim}
 use mathlib.Core.Bool.{Bool, true, false, not, cond}
@@ -12,8 +13,6 @@ use lib.Dec.{eqb, ltb}
 use lib.ListN.{length, get_or, set, take, drop, replicate, length-append, length-take, length-drop, length-replicate, length-set}
 use lib.Seq.{ext_get_or, set_at, get_or-set_same, get_or-set_other, get_or-take, get_or-drop}
 use Rattle.sets.specs.Below.{all_below, some_below, first_not, sum_below, count_below, table_from, table, filled, changed}
-use Rattle.sets.specs.declared.Found.{Found}
-use Rattle.sets.specs.declared.Found.TheVariants.{At, Nothing}
 use Rattle.sets.proofs.Tests.{and_true, and_both, and_false, not_both}
 
 -- i < n + 1: it is n, or below
@@ -51,6 +50,9 @@ module _ (p : ℕ → Bool) where
   unfolding all_below
   all_by zero f = refl
   all_by (suc n) f = and_true (all_by n (λ i l. f i (omega arith))) (f n (omega arith))
+
+-- a loop that tests each number: its start, its turn, where it stops, and its end
+pub ruleset all_turns = (all_start, all_more, all_stop, all_end)
 
 -- the same test, number by number
 pub all_same : (p q : ℕ → Bool) (n : ℕ) → ((i : ℕ) → i < n → p i ≡ q i) → all_below p n ≡ all_below q n
@@ -112,57 +114,57 @@ pub record FirstNot (p : ℕ → Bool) (n b : ℕ) : Type 0 where
   pub fails : p b ≡ false
   pub before : (i : ℕ) → i < b → p i ≡ true
 
-pub no_at : {A : Type 0} {b : ℕ} → Nothing ≡ At b → A
+pub no_at : {A : Type 0} {b : ℕ} → None ≡ Some b → A
 no_at h = let z : ◌≡◌ {A = ℕ} 0 1 = cc in absurd (omega arith)
 
-pub at_is : {a b : ℕ} → At a ≡ At b → a ≡ b
+pub at_is : {a b : ℕ} → Some a ≡ Some b → a ≡ b
 at_is h = cc
 
 module _ (p : ℕ → Bool) where
-  pub first_start : first_not p 0 ≡ Nothing
+  pub first_start : first_not p 0 ≡ None
   unfolding first_not
   first_start = refl
 
-  pub first_more : (i : ℕ) → first_not p i ≡ Nothing → p i ≡ true → first_not p (i + 1) ≡ Nothing
+  pub first_more : (i : ℕ) → first_not p i ≡ None → p i ≡ true → first_not p (i + 1) ≡ None
   unfolding first_not
   first_more i h e = rw (add-one, h, e)
 
-  pub first_found : (i n : ℕ) → first_not p i ≡ Nothing → p i ≡ false → i < n → first_not p n ≡ At i
+  pub first_found : (i n : ℕ) → first_not p i ≡ None → p i ≡ false → i < n → first_not p n ≡ Some i
   unfolding first_not
   first_found i zero h e l = absurd (not-suc-le-zero l)
   first_found i (suc n) h e l =
       ⊎_elim (λ (m : i ≡ n). rw (← m, h, e)) (λ (m : i < n). rw (first_found i n h e m)) (last_or i n l)
 
-  pub first_end : (i n : ℕ) → i ≤ n → n ≤ i → first_not p i ≡ Nothing → first_not p n ≡ Nothing
-  first_end i n l g h = subst (λ (k : ℕ). first_not p k ≡ Nothing) (le_antisymm l g) h
+  pub first_end : (i n : ℕ) → i ≤ n → n ≤ i → first_not p i ≡ None → first_not p n ≡ None
+  first_end i n l g h = subst (λ (k : ℕ). first_not p k ≡ None) (le_antisymm l g) h
 
-  pub first_by : (n : ℕ) → ((i : ℕ) → i < n → p i ≡ true) → first_not p n ≡ Nothing
+  pub first_by : (n : ℕ) → ((i : ℕ) → i < n → p i ≡ true) → first_not p n ≡ None
   unfolding first_not
   first_by zero f = refl
   first_by (suc n) f = rw (first_by n (λ i l. f i (omega arith)), f n (omega arith))
 
   -- what the search tells: nothing, and every number passes; or b, the first that fails
-  pub first_each : (n : ℕ) → first_not p n ≡ Nothing → (i : ℕ) → i < n → p i ≡ true
+  pub first_each : (n : ℕ) → first_not p n ≡ None → (i : ℕ) → i < n → p i ≡ true
   unfolding first_not
   first_each zero h i l = absurd (not-suc-le-zero l)
   first_each (suc n) h i l = go (λ e m. first_each n e i m) (first_not p n) refl (p n) refl
     where
-      go : (first_not p n ≡ Nothing → i < n → p i ≡ true) → (x : Found) → first_not p n ≡ x → (b : Bool) → p n ≡ b → p i ≡ true
-      go ih (At k) e b f = no_at (sym (rw e at h))
-      go ih Nothing e true f = ⊎_elim (λ (m : i ≡ n). rw m f) (λ (m : i < n). ih e m) (last_or i n l)
-      go ih Nothing e false f = no_at (sym (rw (e, f) at h))
+      go : (first_not p n ≡ None → i < n → p i ≡ true) → (x : Option ℕ) → first_not p n ≡ x → (b : Bool) → p n ≡ b → p i ≡ true
+      go ih (Some k) e b f = no_at (sym (rw e at h))
+      go ih None e true f = ⊎_elim (λ (m : i ≡ n). rw m f) (λ (m : i < n). ih e m) (last_or i n l)
+      go ih None e false f = no_at (sym (rw (e, f) at h))
 
-  pub first_is : (n b : ℕ) → first_not p n ≡ At b → FirstNot p n b
+  pub first_is : (n b : ℕ) → first_not p n ≡ Some b → FirstNot p n b
   unfolding first_not
   first_is zero b h = no_at h
   first_is (suc n) b h = go (first_is n b) (first_not p n) refl (p n) refl
     where
-      go : (first_not p n ≡ At b → FirstNot p n b) → (x : Found) → first_not p n ≡ x → (c : Bool) → p n ≡ c → FirstNot p (suc n) b
-      go ih (At k) e c f =
+      go : (first_not p n ≡ Some b → FirstNot p n b) → (x : Option ℕ) → first_not p n ≡ x → (c : Bool) → p n ≡ c → FirstNot p (suc n) b
+      go ih (Some k) e c f =
           let g = ih (e ∙ rw e at h) in
           record { below = omega (arith, g.below); fails = g.fails; before = g.before }
-      go ih Nothing e true f = no_at (rw (e, f) at h)
-      go ih Nothing e false f =
+      go ih None e true f = no_at (rw (e, f) at h)
+      go ih None e false f =
           let m : n ≡ b = at_is (rw (e, f) at h) in
           record { below = omega arith; fails = rw (← m) f; before = λ i l. first_each n e i (omega arith) }
 

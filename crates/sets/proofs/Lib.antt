@@ -2,6 +2,9 @@ pub mod Arrays
 pub mod Tests
 pub mod Below
 pub mod Lists
+pub mod Chains
+pub mod Made
+pub mod Ranges
 pub mod Masks
 pub mod Groups
 pub mod Bytes

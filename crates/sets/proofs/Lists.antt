@@ -1,4 +1,5 @@
 -- Laws of lists of anything: whether all or some pass a test, those that do, how many, the first, one taken out, blank places behind, and a loop's turn for each.
+use Rattle.std.specs.Prelude.{Some, None}
 use mathlib.Core.Path.{◌≡◌, refl, sym, ap, ap₂, subst, ◌∙◌}
 use mathlib.Core.Bool.{Bool, true, false, ◌&&◌, ◌||◌, not, cond, or-true}
 use mathlib.Core.List.{List, [], ◌∷◌, ◌++◌, map, append_assoc}
@@ -12,7 +13,6 @@ use lib.ListN.{length, take, drop, set, get_or, replicate, length-append, length
 use lib.Seq.{take-suc, take-nil, drop-cons, split_at, take-append_seam, get_or-append-add, get_or-take, length-take-le, set_at, ext_get_or}
 use Rattle.sets.specs.Below.{sum_below, count_below, table_from, table}
 use Rattle.sets.specs.Lists.{all_of, some_of, passing, counted, first_from, without, padded, folded, is_one_of}
-use Rattle.sets.specs.declared.Found.TheVariants.{At, Nothing}
 use Rattle.sets.proofs.Tests.{not_both, and_true, and_both, or_other, is_false, choose}
 use Rattle.sets.proofs.Below.{no_at, at_is, table_more}
 
@@ -268,7 +268,7 @@ module _ {A : Type 0} where
 
   -- ---- the first that passes: a loop's turn and its end
 
-  pub find_hit : (p : A → Bool) (l : List A) (i : ℕ) (d : A) → i < length l → p (get_or l i d) ≡ true → first_from i p (drop i l) ≡ At i
+  pub find_hit : (p : A → Bool) (l : List A) (i : ℕ) (d : A) → i < length l → p (get_or l i d) ≡ true → first_from i p (drop i l) ≡ Some i
   unfolding first_from
   find_hit p l i d h e = rw (drop-cons l i d h, e)
 
@@ -277,7 +277,7 @@ module _ {A : Type 0} where
   unfolding first_from
   find_miss p l i d h e = rw (add-one, drop-cons l i d h, e)
 
-  pub find_end : (p : A → Bool) (l : List A) (i : ℕ) → length l ≤ i → first_from i p (drop i l) ≡ Nothing
+  pub find_end : (p : A → Bool) (l : List A) (i : ℕ) → length l ≤ i → first_from i p (drop i l) ≡ None
   unfolding first_from
   find_end p l i h = rw (drop_of_length-le l {i = i} h)
 
@@ -294,12 +294,12 @@ record FoundAt {A : Type 0} (p : A → Bool) (l : List A) (d : A) (s i : ℕ) : 
   first : FirstAt p l d k
 
 module _ {A : Type 0} (p : A → Bool) where
-  found_at : (l : List A) (d : A) (s i : ℕ) → first_from s p l ≡ At i → FoundAt p l d s i
+  found_at : (l : List A) (d : A) (s i : ℕ) → first_from s p l ≡ Some i → FoundAt p l d s i
   unfolding first_from
   found_at [] d s i h = no_at h
   found_at (x ∷ xs) d s i h = go (found_at xs d (suc s) i) (p x) refl h
     where
-      go : (first_from (suc s) p xs ≡ At i → FoundAt p xs d (suc s) i) → (b : Bool) → p x ≡ b → cond b (At s) (first_from (suc s) p xs) ≡ At i → FoundAt p (x ∷ xs) d s i
+      go : (first_from (suc s) p xs ≡ Some i → FoundAt p xs d (suc s) i) → (b : Bool) → p x ≡ b → cond b (Some s) (first_from (suc s) p xs) ≡ Some i → FoundAt p (x ∷ xs) d s i
       go ih true e f =
           record {
             k = 0;
@@ -318,44 +318,44 @@ module _ {A : Type 0} (p : A → Bool) where
           past zero l = e
           past (suc j) l = (ih f).first.before j (le_of_suc-le-suc l)
 
-  pub find_is : (l : List A) (d : A) (i : ℕ) → first_from 0 p l ≡ At i → FirstAt p l d i
+  pub find_is : (l : List A) (d : A) (i : ℕ) → first_from 0 p l ≡ Some i → FirstAt p l d i
   find_is l d i h =
       let r = found_at l d 0 i h in
       let e : r.k ≡ i = omega (arith, r.place) in
       subst (FirstAt p l d) e r.first
 
-  nothing_from : (s : ℕ) (l : List A) → first_from s p l ≡ Nothing → all_of (λ x. not (p x)) l ≡ true
+  nothing_from : (s : ℕ) (l : List A) → first_from s p l ≡ None → all_of (λ x. not (p x)) l ≡ true
   unfolding first_from all_of
   nothing_from s [] h = refl
   nothing_from s (x ∷ xs) h = go (nothing_from (suc s) xs) (p x) refl h
     where
-      go : (first_from (suc s) p xs ≡ Nothing → all_of (λ y. not (p y)) xs ≡ true) → (b : Bool) → p x ≡ b → cond b (At s) (first_from (suc s) p xs) ≡ Nothing
+      go : (first_from (suc s) p xs ≡ None → all_of (λ y. not (p y)) xs ≡ true) → (b : Bool) → p x ≡ b → cond b (Some s) (first_from (suc s) p xs) ≡ None
           → (not (p x) && all_of (λ y. not (p y)) xs) ≡ true
       go ih true e f = no_at (sym f)
       go ih false e f = and_true (ap not e) (ih f)
 
-  pub find_none : (l : List A) → first_from 0 p l ≡ Nothing → all_of (λ x. not (p x)) l ≡ true
+  pub find_none : (l : List A) → first_from 0 p l ≡ None → all_of (λ x. not (p x)) l ≡ true
   find_none l h = nothing_from 0 l h
 
-  at_found : (l : List A) (d : A) (s i : ℕ) → FirstAt p l d i → first_from s p l ≡ At (s + i)
+  at_found : (l : List A) (d : A) (s i : ℕ) → FirstAt p l d i → first_from s p l ≡ Some (s + i)
   unfolding first_from
   at_found [] d s i f = absurd (not-suc-le-zero f.below)
-  at_found (x ∷ xs) d s zero f = rw f.here (ap At (omega arith))
+  at_found (x ∷ xs) d s zero f = rw f.here (ap Some (omega arith))
   at_found (x ∷ xs) d s (suc i) f =
       let g : FirstAt p xs d i = record { below = le_of_suc-le-suc f.below; here = f.here; before = λ j l. f.before (suc j) (suc-le-suc l) } in
-      rw (f.before zero (omega arith), at_found xs d (suc s) i g) (ap At (omega arith))
+      rw (f.before zero (omega arith), at_found xs d (suc s) i g) (ap Some (omega arith))
 
-  pub is_find : (l : List A) (d : A) (i : ℕ) → FirstAt p l d i → first_from 0 p l ≡ At i
-  is_find l d i f = at_found l d 0 i f ∙ ap At (omega arith)
+  pub is_find : (l : List A) (d : A) (i : ℕ) → FirstAt p l d i → first_from 0 p l ≡ Some i
+  is_find l d i f = at_found l d 0 i f ∙ ap Some (omega arith)
 
-  from_none : (s : ℕ) (l : List A) → all_of (λ x. not (p x)) l ≡ true → first_from s p l ≡ Nothing
+  from_none : (s : ℕ) (l : List A) → all_of (λ x. not (p x)) l ≡ true → first_from s p l ≡ None
   unfolding first_from all_of
   from_none s [] h = refl
   from_none s (x ∷ xs) h =
       let b = and_both (not (p x)) (all_of (λ y. not (p y)) xs) h in
       rw (not-true (p x) b.left, from_none (suc s) xs b.right)
 
-  pub none_find : (l : List A) → all_of (λ x. not (p x)) l ≡ true → first_from 0 p l ≡ Nothing
+  pub none_find : (l : List A) → all_of (λ x. not (p x)) l ≡ true → first_from 0 p l ≡ None
   none_find l h = from_none 0 l h
 
 module _ {A : Type 0} where

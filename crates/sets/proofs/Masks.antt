@@ -23,6 +23,10 @@ use Rattle.sets.proofs.Tests.{and_both}
 
 -- ---- masks as numbers
 
+-- nothing is left of a mask of 16 bits past its end
+pub gone_past : (n mask : ℕ) → 16 ≤ n → mask < 2 ^ 16 → mask / 2 ^ n ≡ 0
+gone_past n mask h l = div-eq_of_lt (le_trans l (pow_mono h))
+
 -- a mask of w bits has no member from w up
 pub none_past : (w n mask : ℕ) → w ≤ n → mask < 2 ^ w → none_from n mask ≡ true
 none_past w n mask h l = eq-eqb _ _ (div-eq_of_lt (le_trans l (pow_mono h)))

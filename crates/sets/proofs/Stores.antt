@@ -14,12 +14,12 @@ use Rattle.sets.proofs.Below.{length_table, table_more}
 -- ---- one store, and then others
 
 -- a buffer keeps its length
-pub length_stored : (old : List ℕ) (p : ℕ) (bytes : List ℕ) → length (stored old p bytes) ≡ length old
+pub length_stored : {A : Type 0} (old : List A) (p : ℕ) (bytes : List A) → length (stored old p bytes) ≡ length old
 unfolding stored
 length_stored old p bytes = length-sets old p bytes
 
 -- nothing is stored
-pub stored_none : (old : List ℕ) (p : ℕ) → old ≡ stored old p []
+pub stored_none : {A : Type 0} (old : List A) (p : ℕ) → old ≡ stored old p []
 unfolding stored
 stored_none old p = refl
 
@@ -58,19 +58,19 @@ length_chained old p (x ∷ xs) = from_length xs (set old p x) p 1 ∙ length-se
 pub in_chain : (old : List ℕ) (p : ℕ) (xs : List ℕ) (i : ℕ) → i < length old → i < length (chained old p xs)
 in_chain old p xs i h = subst (λ (n : ℕ). i < n) (sym (length_chained old p xs)) h
 
-sets_more : (xs ys old : List ℕ) (p : ℕ) → sets old p (xs ++ ys) ≡ sets (sets old p xs) (p + length xs) ys
+sets_more : {A : Type 0} (xs ys old : List A) (p : ℕ) → sets old p (xs ++ ys) ≡ sets (sets old p xs) (p + length xs) ys
 sets_more [] ys old p = ap (λ (q : ℕ). sets old q ys) (sym (add-zero p))
 sets_more (x ∷ xs) ys old p =
     sets_more xs ys (set old p x) (suc p)
     ∙ ap (λ (q : ℕ). sets (sets (set old p x) (suc p) xs) q ys) (suc-add p (length xs) ∙ sym (add-suc p (length xs)))
 
 -- after some bytes, those that come behind them
-pub stored_more : (old now next xs ys : List ℕ) (p q : ℕ) → now ≡ stored old p xs → next ≡ stored now q ys → q ≡ p + length xs
+pub stored_more : {A : Type 0} (old now next xs ys : List A) (p q : ℕ) → now ≡ stored old p xs → next ≡ stored now q ys → q ≡ p + length xs
     → next ≡ stored old p (xs ++ ys)
 unfolding stored
 stored_more old now next xs ys p q e f h =
     f
-    ∙ ap (λ (l : List ℕ). sets l q ys) e
+    ∙ ap (λ l. sets l q ys) e
     ∙ ap (λ (k : ℕ). sets (sets old p xs) k ys) h
     ∙ sym (sets_more xs ys old p)
 
@@ -132,18 +132,18 @@ stored_over old xs ys p q l h room =
 -- ---- byte by byte
 
 -- a loop that stores f 0, f 1 and so on, from place p on: its start, a turn and its end
-module _ (f : ℕ → ℕ) (old : List ℕ) (p : ℕ) where
+module _ {A : Type 0} (f : ℕ → A) (old : List A) (p : ℕ) where
   pub bytes_start : old ≡ stored old p (table f 0)
   unfolding table_from
   bytes_start = stored_none old p
 
-  pub bytes_turn : (now : List ℕ) (i x : ℕ) → now ≡ stored old p (table f i) → x ≡ f i → set now (p + i) x ≡ stored old p (table f (i + 1))
+  pub bytes_turn : (now : List A) (i : ℕ) (x : A) → now ≡ stored old p (table f i) → x ≡ f i → set now (p + i) x ≡ stored old p (table f (i + 1))
   unfolding stored
   bytes_turn now i x e g =
       stored_more old now (set now (p + i) x) (table f i) (x ∷ []) p (p + i) e refl (ap (λ (k : ℕ). p + k) (sym (length_table f i)))
-      ∙ ap (stored old p) (ap (λ (y : ℕ). table f i ++ (y ∷ [])) g ∙ sym (table_more f i))
+      ∙ ap (stored old p) (ap (λ y. table f i ++ (y ∷ [])) g ∙ sym (table_more f i))
 
-  pub bytes_end : (now : List ℕ) (i n : ℕ) → i ≤ n → n ≤ i → now ≡ stored old p (table f i) → now ≡ stored old p (table f n)
+  pub bytes_end : (now : List A) (i n : ℕ) → i ≤ n → n ≤ i → now ≡ stored old p (table f i) → now ≡ stored old p (table f n)
   bytes_end now i n l g e = let k : i ≡ n = omega arith in e ∙ ap (λ (j : ℕ). stored old p (table f j)) k
 
 -- ---- the same number of bytes for each

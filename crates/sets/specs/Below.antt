@@ -1,7 +1,5 @@
 -- Tests, sums, searches and tables over the numbers 0, 1, .. n - 1.
-use Rattle.std.specs.Prelude.{Bool, true, ◌&&◌, not, cond, List, [], ◌∷◌, ◌++◌, ℕ, zero, suc, ◌+◌, ◌-◌, ltb, get_or, replicate}
-use Rattle.sets.specs.declared.Found.{Found}
-use Rattle.sets.specs.declared.Found.TheVariants.{At, Nothing}
+use Rattle.std.specs.Prelude.{Bool, true, ◌&&◌, not, cond, List, [], ◌∷◌, ◌++◌, ℕ, zero, suc, ◌+◌, ◌-◌, ltb, get_or, replicate, Option, Some, None}
 
 -- p holds at every number below n
 unfoldable pub all_below : (ℕ → Bool) → ℕ → Bool
@@ -13,14 +11,14 @@ abbrev pub some_below : (ℕ → Bool) → ℕ → Bool
 some_below p n = not (all_below (λ i. not (p i)) n)
 
 -- x, where it is something; else y
-abbrev pub or_else : Found → Found → Found
-or_else (At k) y = At k
-or_else Nothing y = y
+abbrev pub or_else : Option ℕ → Option ℕ → Option ℕ
+or_else (Some k) y = Some k
+or_else None y = y
 
 -- the first number below n at which p does not hold
-unfoldable pub first_not : (ℕ → Bool) → ℕ → Found
-first_not p zero = Nothing
-first_not p (suc n) = or_else (first_not p n) (cond (p n) Nothing (At n))
+unfoldable pub first_not : (ℕ → Bool) → ℕ → Option ℕ
+first_not p zero = None
+first_not p (suc n) = or_else (first_not p n) (cond (p n) None (Some n))
 
 -- f 0 + f 1 + .. + f (n - 1)
 unfoldable pub sum_below : (ℕ → ℕ) → ℕ → ℕ

@@ -1,7 +1,5 @@
 -- Lists of anything: whether all or some pass a test, those that do, how many, the first, one taken out, blank places behind.
-use Rattle.std.specs.Prelude.{Bool, true, false, ◌&&◌, ◌||◌, cond, List, [], ◌∷◌, ◌++◌, ℕ, suc, ◌+◌, ◌-◌, eqb, length, take, drop, replicate}
-use Rattle.sets.specs.declared.Found.{Found}
-use Rattle.sets.specs.declared.Found.TheVariants.{At, Nothing}
+use Rattle.std.specs.Prelude.{Bool, true, false, ◌&&◌, ◌||◌, cond, List, [], ◌∷◌, ◌++◌, ℕ, suc, ◌+◌, ◌-◌, eqb, length, take, drop, replicate, Option, Some, None}
 
 module _ {A : Type 0} where
   -- each passes
@@ -25,9 +23,9 @@ module _ {A : Type 0} where
   counted p (x ∷ xs) = cond (p x) 1 0 + counted p xs
 
   -- the place of the first that passes, where the list starts at place i
-  unfoldable pub first_from : ℕ → (A → Bool) → List A → Found
-  first_from i p [] = Nothing
-  first_from i p (x ∷ xs) = cond (p x) (At i) (first_from (suc i) p xs)
+  unfoldable pub first_from : ℕ → (A → Bool) → List A → Option ℕ
+  first_from i p [] = None
+  first_from i p (x ∷ xs) = cond (p x) (Some i) (first_from (suc i) p xs)
 
   -- the list with what stands at place i taken out
   unfoldable pub without : ℕ → List A → List A

@@ -16,6 +16,6 @@ each_of f (suc n) = each_of f n ++ f n
 abbrev pub onto : List ℕ → List ℕ → List ℕ
 onto bytes old = bytes ++ drop (length bytes) old
 
--- the buffer with the bytes from place p on
-unfoldable pub stored : List ℕ → ℕ → List ℕ → List ℕ
+-- the buffer with the bytes from place p on, or a line of anything with some of it
+unfoldable pub stored : {A : Type 0} → List A → ℕ → List A → List A
 stored old p bytes = sets old p bytes

@@ -1,10 +1,10 @@
 -- What is read of a model to decide validity: the state at state % 32 tells the same as the state in which a subject is.
 use mathlib.Core.Path.{◌≡◌, refl, sym, ap, ◌∙◌}
-use mathlib.Core.Bool.{Bool, true, false, ◌||◌}
+use mathlib.Core.Bool.{Bool, true, false, ◌||◌, ◌&&◌, cond}
 use mathlib.Core.List.{List}
 use Prim.Native.Nat.{ℕ, ◌+◌, ◌*◌, ◌%◌, ◌≤◌, ◌<◌}
 use native.Mathlib.Omega.{arith}
-use borrow.Author.Tests.{eqb-true, eqb-false, ltb-true, ltb-false}
+use borrow.Author.Tests.{eqb-true, eqb-false, ltb-true, ltb-false, lt-ltb}
 use lib.Dec.{eqb, ltb}
 use lib.ListN.{length, get_or, set}
 use lib.Seq.{get_or-set_same, get_or-set_other}
@@ -15,7 +15,7 @@ use Rattle.model.specs.Valid.{state_at, subject_at, valid}
 use Rattle.model.specs.declared.Model.{Model}
 use Rattle.model.specs.declared.State.{State}
 use Rattle.engine.specs.configs.Subjects.{at, here_of}
-use Rattle.engine.specs.configs.Valid.{subject_valid, is_nobody, subject_right, place_right, places_right, type_of}
+use Rattle.engine.specs.configs.Valid.{subject_valid, is_nobody, subject_right, place_right, places_right, type_of, config_valid, fault_of}
 use Rattle.engine.specs.inner.Reads.{read_here, masks_of, places_of}
 use Rattle.engine.specs.declared.Config.{Config}
 use Rattle.engine.specs.declared.Pool.{Pool}
@@ -70,6 +70,23 @@ module _ (m : Model) (c : Config) (v : valid m ≡ true) where
       same r s l =
           let k = subject_there m v s l in
           ap (λ (t : ℕ). place_right s (at c s).mask t r (at c r).pool) (is s l ∙ ap type_of (here_read s k (state_there_lem m c s k l h)))
+
+  -- a turn: subject s is right exactly when it is valid by what is read
+  pub subject_step : (s : ℕ) → s < m.n → subject_right m c s ≡ subject_valid m.n (subject_at m s) (read_here m c s) (at c s)
+  unfolding subject_right
+  subject_step s l = rw (lt-ltb s m.n l) (sym (subject_read s (subject_there m v s l)))
+
+  -- where those below n are right and their types are noted, the others and the places decide
+  pub config_told : (types : List ℕ) → all_below (subject_right m c) m.n ≡ true → ((s : ℕ) → s < m.n → get_or types s 0 ≡ type_of (read_here m c s))
+      → config_valid m c ≡ (all_below (λ k. ltb k m.n || is_nobody (at c k)) most_subjects && places_of m.n types c)
+  unfolding config_valid
+  config_told types below noted = go (all_below (λ k. ltb k m.n || is_nobody (at c k)) most_subjects) refl
+    where
+      go : (b : Bool) → all_below (λ k. ltb k m.n || is_nobody (at c k)) most_subjects ≡ b → config_valid m c ≡ (b && places_of m.n types c)
+      go true e =
+          let all = sym (subjects_rest below) ∙ e in
+          rw (all, places_read all types noted)
+      go false e = rw (sym (subjects_rest below) ∙ e)
 
 -- the masks as they are gathered judge a pool as those of the subjects
 pub masks_read : (n : ℕ) (types : List ℕ) (c : Config) (r : ℕ) (p : Pool) → n ≤ most_subjects

@@ -1,4 +1,5 @@
 -- Which entries match; and what delivering and withdrawing do to a list of entries: to the reservations of each sender, to the messages, to the rows and to validity.
+use Rattle.std.specs.Prelude.{Some, None}
 use mathlib.Core.Path.{◌≡◌, refl, sym, ap, ap₂, ◌∙◌}
 use mathlib.Core.Logic.{◌≢◌}
 use mathlib.Core.Bool.{Bool, true, false, ◌&&◌, ◌||◌, not, cond}
@@ -11,7 +12,6 @@ use lib.Bits.{bit_or, or_add_and, or_lt, or_block, or_zero_r, and_mask}
 use lib.Dec.{eqb, ltb, lit<}
 use lib.ListN.{length, length-map}
 use Rattle.sets.specs.Lists.{all_of, some_of, passing, counted}
-use Rattle.sets.specs.declared.Found.TheVariants.{At, Nothing}
 use Rattle.sets.proofs.Tests.{and_true, and_both, and_false, not_both, is_false, choose}
 use Rattle.sets.proofs.Below.{all_each, all_by}
 use Rattle.sets.proofs.Lists.{some_of_by, none_some_of, some_of_map, some_of_passing, find_is, find_none, all_of_passing, all_of_weaker, all_of_map, all_of_each, counted_map, counted_same, counted_passing, counted_weaker, counted_bound, length_passing, passing_all, none_counted}
@@ -217,13 +217,13 @@ message_empty p e = rw e
 
 module _ (es : List Entry) where
   -- exactly where the search for any finds one
-  pub message_found : (i : ℕ) → first_message any any es ≡ At i → has_message es ≡ true
+  pub message_found : (i : ℕ) → first_message any any es ≡ Some i → has_message es ≡ true
   unfolding first_message has_message
   message_found i h =
       let f = find_is (is_message any any) es blank_entry i h in
       some_of_by _ es blank_entry i f.below (sym (any_message _) ∙ f.here)
 
-  pub message_none : first_message any any es ≡ Nothing → has_message es ≡ false
+  pub message_none : first_message any any es ≡ None → has_message es ≡ false
   unfolding first_message has_message
   message_none h =
       none_some_of _ es (all_of_weaker _ _ es (λ e k. ap not (sym (any_message e)) ∙ k) (find_none (is_message any any) es h))

@@ -1,19 +1,35 @@
 -- Laws of pools: the struct and the list of its entries, the loops over it, and what the steps do to it in terms of the list.
+use Rattle.std.specs.Prelude.{Option, Some, None, unwrap_or}
+use Rattle.std.specs.Option.{UnwrapsOrElse}
 use mathlib.Core.Path.{◌≡◌, refl, sym, ap, ◌∙◌}
 use mathlib.Core.Bool.{Bool, true, false, ◌&&◌, not, cond}
 use mathlib.Core.List.{List, [], ◌∷◌, ◌++◌, map, append-nil}
-use Prim.Native.Nat.{ℕ, ◌+◌, ◌≤◌, ◌<◌}
+use Prim.Native.Nat.{ℕ, ◌+◌, ◌-◌, ◌≤◌, ◌<◌}
 use native.Mathlib.Omega.{arith}
-use borrow.Author.Tests.{lt-ltb, le-ltb, le-leb, ltb-true, ltb-false, leb-true, eqb-true, not-true}
+use Rattle.std.specs.Prelude.{min}
+use Rattle.std.specs.List.{list_all, enumerate_from, filter_map, cons_option}
+use Rattle.std.proofs.lemmas.List.Elements.{filter_map-append}
+use Rattle.std.proofs.Common.{add-one}
+use Rattle.std.specs.Array.{AllOfLen}
+use Rattle.std.proofs.lemmas.List.FromFn.{length-enumerate_from, get_or-enumerate_from}
+use lib.Seq.{ext_get_or, take-suc, take-nil}
+use Rattle.sets.proofs.Below.{all_same}
+use Rattle.sets.proofs.Chains.{all_below_list}
+use Prim.Native.Nat.{zero, suc}
+use Rattle.model.specs.Sizes.{most_rows}
+use Rattle.model.specs.declared.Row.{Row}
+use Rattle.engine.specs.pools.Rows.{each_row}
+use borrow.Author.Tests.{eq-eqb, ne_eqb, lt-ltb, le-ltb, le-leb, ltb-true, ltb-false, leb-true, leb-false, eqb-true, not-true}
 use lib.Dec.{eqb, ltb, leb}
-use lib.ListN.{length, take, drop, get_or, set, length-append, length-take, length-map, length-replicate}
+use lib.Pointwise.{pointwise}
+use Rattle.std.proofs.Math.Bool.{and_comm, and-true}
+use lib.ListN.{replicate, length, take, get_or, set, length-append, length-take, length-map, length-replicate}
 use lib.Seq.{take_all, length-take-le, get_or-take}
 use Rattle.sets.specs.Below.{all_below}
-use Rattle.sets.specs.Lists.{all_of, passing, counted, first_from, without, padded}
-use Rattle.sets.specs.declared.Found.TheVariants.{At}
+use Rattle.sets.specs.Lists.{all_of, passing, without, padded}
 use Rattle.sets.proofs.Tests.{and_true, and_both, choose}
 use Rattle.sets.proofs.Below.{all_each, all_by}
-use Rattle.sets.proofs.Lists.{all_of_at, all_of_by, passing_more, passing_all, length_passing, counted_more, counted_bound, counted_none, find_hit, find_miss, without_more, length_padded, padded_front, padded_set, padded_at, padded_past, padded_of, map_more}
+use Rattle.sets.proofs.Lists.{all_of_at, all_of_by, passing_all, length_passing, counted_bound, counted_none, length_padded, padded_front, padded_set, padded_at, padded_past, padded_of}
 use Rattle.model.specs.Rules.{any}
 use Rattle.model.specs.declared.Subject.{Subject}
 use Rattle.engine.specs.pools.Entries.{blank_entry, is_blank_entry, reserved_by, delivered}
@@ -22,7 +38,95 @@ use Rattle.engine.specs.pools.Rows.{rows_kept}
 use Rattle.engine.specs.pools.Valid.{entry_valid, place_valid, pool_valid, is_blank_pool}
 use Rattle.engine.specs.declared.Entry.{Entry}
 use Rattle.engine.specs.declared.Pool.{Pool}
-use Rattle.sets.proofs.Lists.{without_short, map_stays, cond_not}
+use Rattle.sets.proofs.Lists.{without_short, map_stays}
+
+-- a test that all from n up pass
+all_first : (f g : ℕ → Bool) (n m : ℕ) → n ≤ m → ((i : ℕ) → i < n → f i ≡ g i) → ((i : ℕ) → n ≤ i → i < m → f i ≡ true) → all_below f m ≡ all_below g n
+unfolding all_below
+all_first f g n zero l e t = let z : n ≡ 0 = omega arith in rw z
+all_first f g n (suc m) l e t = go (λ h. all_first f g n m h e (λ i a b. t i a (omega arith))) (leb n m) refl
+  where
+    go : (n ≤ m → all_below f m ≡ all_below g n) → (b : Bool) → leb n m ≡ b → all_below f (suc m) ≡ all_below g n
+    go ih true k = let h = leb-true n m k in rw (t m h (omega arith), and-true) (ih h)
+    go ih false k = let h : n ≡ suc m = let z = leb-false n m k in omega arith in rw h (all_same f g (suc m) (λ i a. e i (rw h a)))
+
+-- so many of a list: no more than are there
+pub take_within : {A : Type 0} (n k r : ℕ) (l : List A) → r ≡ min n k → length l ≤ k → take r l ≡ take n l
+take_within n k r l e h = go (leb n k) refl
+  where
+    go : (b : Bool) → leb n k ≡ b → take r l ≡ take n l
+    go true t = let small = leb-true n k t in ap (λ (i : ℕ). take i l) (omega (arith, e, small))
+    go false t = let large = leb-false n k t in take_all r l (omega (arith, e, large)) ∙ sym (take_all n l (omega (arith, large)))
+
+-- a test of each row that the owner has, by the list of them
+abbrev pub first_rows : Subject → List Row
+first_rows owner = take (min owner.rows most_rows) owner.row
+
+pub each_row_list : (p : Row → Bool) (owner : Subject) → length owner.row ≡ most_rows → each_row p owner ≡ list_all p (first_rows owner)
+each_row_list p owner n =
+    let d : Row = record { sender = 0; typ = 0; limit = 0 } in
+    let k = min owner.rows 8 in
+    let long : length (first_rows owner) ≡ k = length-take-le k owner.row (omega (arith, n)) in
+    all_first _ (λ i. p (get_or (first_rows owner) i d)) k 8 (omega arith)
+    (λ i l. rw (lt-ltb i owner.rows (omega (arith, l))) (ap p (sym (get_or-take k owner.row i d l))))
+    (λ i l m. rw (le-ltb i owner.rows (omega (arith, l, m))))
+    ∙ ap (all_below (λ i. p (get_or (first_rows owner) i d))) (sym long)
+    ∙ all_below_list p (first_rows owner) d
+
+-- a test of each place and what stands there, by the list of the pairs
+pub numbered_list : {A : Type 0} (p : ℕ → A → Bool) (xs : List A) (d : A)
+    → all_below (λ i. p i (get_or xs i d)) (length xs) ≡ list_all (λ (t : ℕ × A). p t.0 t.1) (enumerate_from 0 xs)
+numbered_list {A} p xs d =
+    all_same _ _ (length xs) (λ i l. ap (λ (k : ℕ). p k (get_or xs i d)) (omega arith) ∙ ap (λ (t : ℕ × A). p t.0 t.1) (sym (get_or-enumerate_from 0 xs i (0, d) l)))
+    ∙ ap (all_below (λ i. p (get_or (enumerate_from 0 xs) i (0, d)).0 (get_or (enumerate_from 0 xs) i (0, d)).1)) (sym (length-enumerate_from 0 xs))
+    ∙ all_below_list (λ (t : ℕ × A). p t.0 t.1) (enumerate_from 0 xs) (0, d)
+
+-- ---- what becomes of each of a list and its place
+
+enumerate_more : {A : Type 0} (n : ℕ) (xs : List A) (x : A) → enumerate_from n (xs ++ (x ∷ [])) ≡ enumerate_from n xs ++ ((n + length xs, x) ∷ [])
+enumerate_more n [] x = ap (λ (k : ℕ). (k, x) ∷ []) (omega arith)
+enumerate_more {A} n (y ∷ ys) x =
+    ap (λ (t : List (ℕ × A)). (n, y) ∷ t)
+    (enumerate_more (n + 1) ys x ∙ ap (λ (k : ℕ). enumerate_from (n + 1) ys ++ ((k, x) ∷ [])) (omega arith))
+
+module _ {A B : Type 0} where
+  given_more : (g : ℕ × A → Option B) (l : List A) (j : ℕ) (d : A) → j < length l
+      → filter_map g (enumerate_from 0 (take (j + 1) l)) ≡ filter_map g (enumerate_from 0 (take j l)) ++ cons_option (g (j, get_or l j d)) []
+  given_more g l j d h =
+      rw (add-one, take-suc l j d h)
+      (ap (filter_map g) (enumerate_more 0 (take j l) (get_or l j d))
+      ∙ filter_map-append g (enumerate_from 0 (take j l)) ((0 + length (take j l), get_or l j d) ∷ [])
+      ∙ ap (λ (k : ℕ). filter_map g (enumerate_from 0 (take j l)) ++ cons_option (g (k, get_or l j d)) []) (omega (arith, length-take-le j l (omega (arith, h)))))
+
+  -- each becomes one
+  pub given_map : (f : A → B) (n : ℕ) (xs : List A) → filter_map (λ (t : ℕ × A). Some (f t.1)) (enumerate_from n xs) ≡ map f xs
+  given_map f n [] = refl
+  given_map f n (x ∷ xs) = ap (λ (t : List B). f x ∷ t) (given_map f (n + 1) xs)
+
+module _ {A : Type 0} where
+  -- those of a kind leave
+  pub given_passing : (f : A → Bool) (n : ℕ) (xs : List A) → filter_map (λ (t : ℕ × A). cond (f t.1) None (Some t.1)) (enumerate_from n xs) ≡ passing (λ x. not (f x)) xs
+  unfolding passing
+  given_passing f n [] = refl
+  given_passing f n (x ∷ xs) = go (f x) (given_passing f (n + 1) xs)
+    where
+      go : (b : Bool) {ys zs : List A} → ys ≡ zs → cons_option (cond b None (Some x)) ys ≡ cond (not b) (x ∷ zs) zs
+      go true e = e
+      go false e = ap (λ (t : List A). x ∷ t) e
+
+  -- who stands at another place stays
+  stay_behind : (i n : ℕ) → i < n → (xs : List A) → filter_map (λ (t : ℕ × A). cond (eqb t.0 i) None (Some t.1)) (enumerate_from n xs) ≡ xs
+  stay_behind i n l [] = refl
+  stay_behind i n l (x ∷ xs) = rw (ne_eqb n i (omega (arith, l))) (ap (λ (t : List A). x ∷ t) (stay_behind i (n + 1) (omega (arith, l)) xs))
+
+  given_without : (i n k : ℕ) → k ≡ n + i → (xs : List A) → filter_map (λ (t : ℕ × A). cond (eqb t.0 k) None (Some t.1)) (enumerate_from n xs) ≡ without i xs
+  unfolding without
+  given_without i n k e [] = rw (take-nil {A = A} i) refl
+  given_without zero n k e (x ∷ xs) = rw (eq-eqb n k (omega (arith, e))) (stay_behind k (n + 1) (omega (arith, e)) xs)
+  given_without (suc i) n k e (x ∷ xs) = rw (ne_eqb n k (omega (arith, e))) (ap (λ (t : List A). x ∷ t) (given_without i (n + 1) k (omega (arith, e)) xs))
+
+  pub given_others : (i : ℕ) (xs : List A) → filter_map (λ (t : ℕ × A). cond (eqb t.0 i) None (Some t.1)) (enumerate_from 0 xs) ≡ without i xs
+  given_others i xs = given_without i 0 i (omega arith) xs
 
 pub pool_is : {a b : Pool} → a.entries ≡ b.entries → a.count ≡ b.count → a ≡ b
 pool_is p q = λ i. record { entries = p i; count = q i }
@@ -38,27 +142,17 @@ module _ (p : Pool) where
   unfolding held
   held_few h = length-take-le p.count p.entries h
 
-  pub held_full : length p.entries ≤ p.count → length (held p) ≡ length p.entries
-  unfolding held
-  held_full h = ap length (take_all p.count p.entries h)
-
   pub held_at : (i : ℕ) → i < length (held p) → get_or (held p) i blank_entry ≡ get_or p.entries i blank_entry
   unfolding held
   held_at i h = get_or-take p.count p.entries i blank_entry (omega (arith, length-take p.count p.entries))
 
-  -- a turn of a loop that counts
-  pub count_turn : (f : Entry → Bool) (i x y : ℕ) → i < length (held p) → x ≡ counted f (take i (held p))
-      → y ≡ cond (f (get_or p.entries i blank_entry)) 1 0 → x + y ≡ counted f (take (i + 1) (held p))
-  count_turn f i x y l e g = rw (counted_more f (held p) i blank_entry l, held_at i l, e, g)
+-- ---- equality with what stands for nothing
 
-  -- a turn of a loop that searches
-  pub search_hit : (f : Entry → Bool) (i : ℕ) → i < length (held p) → f (get_or p.entries i blank_entry) ≡ true
-      → first_from i f (drop i (held p)) ≡ At i
-  search_hit f i l e = find_hit f (held p) i blank_entry l (ap f (held_at i l) ∙ e)
-
-  pub search_miss : (f : Entry → Bool) (i : ℕ) → i < length (held p) → f (get_or p.entries i blank_entry) ≡ false
-      → first_from i f (drop i (held p)) ≡ first_from (i + 1) f (drop (i + 1) (held p))
-  search_miss f i l e = find_miss f (held p) i blank_entry l (ap f (held_at i l) ∙ e)
+-- a list compared with as many of the same
+pub pointwise_blank : {A : Type 0} (same : A → A → Bool) (p : A → Bool) (z : A) → ((x : A) → same x z ≡ p x) → (xs : List A)
+    → pointwise same xs (replicate (length xs) z) ≡ list_all p xs
+pointwise_blank same p z k [] = refl
+pointwise_blank same p z k (x ∷ xs) = rw (k x) (ap (λ (b : Bool). p x && b) (pointwise_blank same p z k xs))
 
 -- ---- entries and places
 
@@ -72,6 +166,17 @@ blank_entry_is e h =
     let m = not-true e.message g.left in
     let k = eqb-true e.content 0 g.right in
     λ i. record { sender = s i; typ = t i; message = m i; content = k i }
+
+-- the entry by default
+abbrev pub IsBlank : Entry → Type 0
+IsBlank e = (e.sender ≡ 0) × ((e.typ ≡ 0) × ((e.message ≡ false) × (e.content ≡ 0)))
+
+pub blank_by : {e : Entry} → IsBlank e → e ≡ blank_entry
+blank_by h = λ i. record { sender = h.0 i; typ = h.1.0 i; message = h.1.1.0 i; content = h.1.1.1 i }
+
+pub unwrapped : (o : Option Entry) (r : Entry) → UnwrapsOrElse o IsBlank r → r ≡ unwrap_or o blank_entry
+unwrapped None r h = blank_by h
+unwrapped (Some x) r h = h
 
 module _ (n : ℕ) (p : Pool) (i : ℕ) (h : place_valid n p i ≡ true) where
   used_place : i < p.count → entry_valid n (get_or p.entries i blank_entry) ≡ true
@@ -113,6 +218,15 @@ module _ (places : ℕ) where
   unfolding pooled
   count_pooled es e = ap (λ (r : Pool). r.count) e
 
+  -- the pool by default
+  pub empty_pool : {q : Pool} → AllOfLen IsBlank q.entries places × (q.count ≡ 0) → q ≡ pooled places []
+  unfolding pooled
+  empty_pool {q} h =
+      pool_is
+      (ext_get_or blank_entry _ _ (h.0.long ∙ sym (length_padded places blank_entry [] (omega arith)))
+      (λ i l. blank_by (h.0.at i blank_entry (omega (arith, h.0.long))) ∙ sym (padded_past places blank_entry [] i blank_entry (omega arith) (omega (arith, h.0.long)))))
+      h.1
+
   store_pooled : (es : List Entry) (i : ℕ) (e : Entry) → length es ≡ i → i < places
       → record { entries = set (pooled places es).entries i e; count = (pooled places es).count + 1 } ≡ pooled places (es ++ (e ∷ []))
   unfolding pooled
@@ -129,48 +243,18 @@ module _ (places : ℕ) where
       ∙ store_pooled es i e (sym (count_pooled es is) ∙ h) l
       ∙ sym (ap (λ (r : Pool). appended places r e) is ∙ append_pooled es e)
 
-  -- a turn of a loop that builds a pool: one more entry where it is wanted
-  pub append_turn : (b : Bool) (q : Pool) (e : Entry) (es fs : List Entry) → q ≡ pooled places es
-      → fs ≡ es ++ cond b (e ∷ []) [] → cond b (appended places q e) q ≡ pooled places fs
-  append_turn true q e es fs k g = rw (k, g) (append_pooled es e)
-  append_turn false q e es fs k g = rw (k, g, append-nil)
+  -- in a turn the entry at place j of the list of p is looked at, of which g gives nothing or one entry
+  module _ (g : ℕ × Entry → Option Entry) (p q : Pool) (j : ℕ) (l : j < length (held p)) (x : Entry) (here : x ≡ get_or (held p) j blank_entry) where
+    given_turn : filter_map g (enumerate_from 0 (take (j + 1) (held p))) ≡ filter_map g (enumerate_from 0 (take j (held p))) ++ cons_option (g (j, x)) []
+    given_turn = rw here (given_more g (held p) j blank_entry l)
 
-  module _ (p q : Pool) (j : ℕ) (l : j < length (held p)) where
-    pub without_turn : (i : ℕ) → q ≡ pooled places (without i (take j (held p)))
-        → cond (not (eqb j i)) (appended places q (get_or p.entries j blank_entry)) q ≡ pooled places (without i (take (j + 1) (held p)))
-    without_turn i e =
-        append_turn
-        (not (eqb j i))
-        q
-        (get_or p.entries j blank_entry)
-        (without i (take j (held p)))
-        (without i (take (j + 1) (held p)))
-        e
-        (rw (without_more i (held p) j blank_entry l, held_at p j l, cond_not))
+    pub left_turn : None ≡ g (j, x) → q ≡ pooled places (filter_map g (enumerate_from 0 (take j (held p)))) → q ≡ pooled places (filter_map g (enumerate_from 0 (take (j + 1) (held p))))
+    left_turn n e = e ∙ ap (pooled places) (sym (given_turn ∙ rw (← n) (append-nil _)))
 
-    pub passing_turn : (f : Entry → Bool) (b : Bool) → b ≡ f (get_or p.entries j blank_entry) → q ≡ pooled places (passing f (take j (held p)))
-        → cond b (appended places q (get_or p.entries j blank_entry)) q ≡ pooled places (passing f (take (j + 1) (held p)))
-    passing_turn f b g e =
-        append_turn
-        b
-        q
-        (get_or p.entries j blank_entry)
-        (passing f (take j (held p)))
-        (passing f (take (j + 1) (held p)))
-        e
-        (rw (passing_more f (held p) j blank_entry l, held_at p j l, ← g))
-
-    pub map_turn : (g : Entry → Entry) → q ≡ pooled places (map g (take j (held p)))
-        → appended places q (g (get_or p.entries j blank_entry)) ≡ pooled places (map g (take (j + 1) (held p)))
-    map_turn g e =
-        append_turn
-        true
-        q
-        (g (get_or p.entries j blank_entry))
-        (map g (take j (held p)))
-        (map g (take (j + 1) (held p)))
-        e
-        (rw (map_more g (held p) j blank_entry l, held_at p j l))
+    pub given_one : (y : Entry) → Some y ≡ g (j, x) → q ≡ pooled places (filter_map g (enumerate_from 0 (take j (held p))))
+        → appended places q y ≡ pooled places (filter_map g (enumerate_from 0 (take (j + 1) (held p))))
+    given_one y n e =
+        rw e (append_pooled (filter_map g (enumerate_from 0 (take j (held p)))) y ∙ ap (pooled places) (sym (given_turn ∙ rw (← n) refl)))
 
   -- ---- a pool that stores its list
 
@@ -271,6 +355,19 @@ module _ (places : ℕ) where
       and_true
       refl
       (all_by (λ j. is_blank_entry (get_or (padded places blank_entry []) j blank_entry)) places (λ i l. ap is_blank_entry (padded_past places blank_entry [] i blank_entry (omega arith) l)))
+
+  -- the pool compared with the pool by default
+  pub blank_by_eq : (same : Entry → Entry → Bool) → ((e : Entry) → same e blank_entry ≡ is_blank_entry e) → (p q : Pool) → length p.entries ≡ places → q ≡ pooled places []
+      → (pointwise same p.entries q.entries && eqb p.count q.count) ≡ is_blank_pool places p
+  unfolding is_blank_pool pooled padded
+  blank_by_eq same k p q n e =
+      let m : places - 0 ≡ length p.entries = omega (arith, n) in
+      let blanks : pointwise same p.entries (replicate (places - 0) blank_entry) ≡ all_below (λ i. is_blank_entry (get_or p.entries i blank_entry)) places =
+      ap (λ (i : ℕ). pointwise same p.entries (replicate i blank_entry)) m
+      ∙ pointwise_blank same is_blank_entry blank_entry k p.entries
+      ∙ sym (all_below_list is_blank_entry p.entries blank_entry)
+      ∙ ap (all_below (λ i. is_blank_entry (get_or p.entries i blank_entry))) n in
+      rw e (ap (λ (b : Bool). b && eqb p.count 0) blanks ∙ and_comm (all_below (λ i. is_blank_entry (get_or p.entries i blank_entry)) places) (eqb p.count 0))
 
   -- ---- what the steps do to the list
 

@@ -1,10 +1,8 @@
 -- The refusals of a step: each test once, and for each command the tests with their numbers in the order in which they are judged.
-use Rattle.std.specs.Prelude.{Bool, true, false, ◌&&◌, not, cond, List, [], ◌∷◌, ℕ, eqb, leb, ltb, length}
+use Rattle.std.specs.Prelude.{Bool, true, false, ◌&&◌, not, cond, List, [], ◌∷◌, ℕ, eqb, leb, ltb, length, Option, Some, None}
 use Rattle.sets.specs.Below.{some_below}
 use Rattle.sets.specs.Masks.{bit, others}
 use Rattle.sets.specs.Tests.{within}
-use Rattle.sets.specs.declared.Found.{Found}
-use Rattle.sets.specs.declared.Found.TheVariants.{At, Nothing}
 use Rattle.model.specs.Rules.{none}
 use Rattle.model.specs.Sizes.{most_subjects}
 use Rattle.model.specs.declared.State.{State}
@@ -40,9 +38,9 @@ not_pool_kind here = not (within 4 here.kind 6)
 abbrev pub no_exit : State → ℕ → Bool
 no_exit here e = leb here.exits e
 
-abbrev pub is_nothing : Found → Bool
-is_nothing (At i) = false
-is_nothing Nothing = true
+abbrev pub is_nothing : Option ℕ → Bool
+is_nothing (Some i) = false
+is_nothing None = true
 
 -- 15: no matching message
 unfoldable pub no_message : State → ℕ → Subject → Bool

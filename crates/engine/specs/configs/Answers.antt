@@ -1,10 +1,10 @@
 -- The answers, with the number and the values of each case.
-use Rattle.std.specs.Prelude.{Bool, true, false, List, [], ◌∷◌, ℕ}
+use Rattle.std.specs.Prelude.{Bool, false, List, [], ◌∷◌, ℕ, Result, Ok, Err}
 use Rattle.engine.specs.declared.Answer.{Answer}
 use Rattle.engine.specs.declared.Answer.TheVariants.{Done, Reserved, Refused}
 use Rattle.engine.specs.declared.Config.{Config}
-use Rattle.engine.specs.declared.Share.{Share}
-use Rattle.engine.specs.declared.Share.TheVariants.{Yes, No, NotAsked}
+use Rattle.engine.specs.declared.NotAsked.{NotAsked}
+use Rattle.engine.specs.declared.NotAsked.TheVariants.{ModelNotValid, NoSubject}
 use Rattle.engine.specs.declared.Stepped.{Stepped}
 
 -- the refusal: 0 is accepted
@@ -28,12 +28,11 @@ abbrev pub done : Config → Stepped
 done c = record { config = c; answer = Done }
 
 -- the yes/no for a pool: refused, the answer is no
-abbrev pub is_yes : Share → Bool
-is_yes Yes = true
-is_yes No = false
-is_yes (NotAsked number) = false
+abbrev pub is_yes : Result Bool NotAsked → Bool
+is_yes (Ok shared) = shared
+is_yes (Err why) = false
 
-abbrev pub share_refusal : Share → ℕ
-share_refusal Yes = 0
-share_refusal No = 0
-share_refusal (NotAsked number) = number
+abbrev pub share_refusal : Result Bool NotAsked → ℕ
+share_refusal (Ok shared) = 0
+share_refusal (Err ModelNotValid) = 8
+share_refusal (Err NoSubject) = 11

@@ -1,5 +1,5 @@
 -- The yes/no for a pool, of so many places: whether it is shared out among its senders.
-use Rattle.std.specs.Prelude.{Bool, ◌&&◌, ◌||◌, not, cond, ℕ, eqb, leb, ltb}
+use Rattle.std.specs.Prelude.{Bool, ◌&&◌, ◌||◌, not, cond, ℕ, eqb, leb, ltb, Result, Ok, Err}
 use Rattle.sets.specs.Below.{all_below, some_below, sum_below}
 use Rattle.sets.specs.Masks.{bit}
 use Rattle.model.specs.Rules.{any}
@@ -9,8 +9,8 @@ use Rattle.model.specs.declared.Row.{Row}
 use Rattle.model.specs.declared.State.{State}
 use Rattle.model.specs.declared.Subject.{Subject}
 use Rattle.engine.specs.configs.Subjects.{is_send, state_of}
-use Rattle.engine.specs.declared.Share.{Share}
-use Rattle.engine.specs.declared.Share.TheVariants.{Yes, No, NotAsked}
+use Rattle.engine.specs.declared.NotAsked.{NotAsked}
+use Rattle.engine.specs.declared.NotAsked.TheVariants.{ModelNotValid, NoSubject}
 
 -- the row names one sender, for all message types
 abbrev pub row_names : Row → Bool
@@ -49,6 +49,5 @@ shared_out places m owner =
     ((rows_name (subject_at m owner) && none_twice (subject_at m owner)) && limits_fit places (subject_at m owner)) && senders_have_rows m owner
 
 -- 8: model not valid; 11: no such subject; else yes or no
-unfoldable pub share_of : ℕ → Model → ℕ → Share
-share_of places m owner =
-    cond (valid m) (cond (ltb owner m.n) (cond (shared_out places m owner) Yes No) (NotAsked 11)) (NotAsked 8)
+unfoldable pub share_of : ℕ → Model → ℕ → Result Bool NotAsked
+share_of places m owner = cond (valid m) (cond (ltb owner m.n) (Ok (shared_out places m owner)) (Err NoSubject)) (Err ModelNotValid)

@@ -1,7 +1,6 @@
 -- A pool is the list of its entries in order of arrival: `held p`. The struct is how the list is stored, in so many places: `pooled places es`.
-use Rattle.std.specs.Prelude.{◌≡◌, Bool, not, List, [], ◌∷◌, ◌++◌, map, ℕ, ◌≤◌, length, take, get_or}
+use Rattle.std.specs.Prelude.{◌≡◌, Bool, not, List, [], ◌∷◌, ◌++◌, map, ℕ, ◌≤◌, length, take, get_or, Option}
 use Rattle.sets.specs.Lists.{some_of, passing, counted, first_from, without, padded}
-use Rattle.sets.specs.declared.Found.{Found}
 use Rattle.model.specs.Rules.{any}
 use Rattle.engine.specs.pools.Entries.{blank_entry, is_message, reserved_by, delivered}
 use Rattle.engine.specs.declared.Entry.{Entry}
@@ -12,7 +11,7 @@ unfoldable pub held : Pool → List Entry
 held p = take p.count p.entries
 
 -- the place of the earliest message that matches
-unfoldable pub first_message : ℕ → ℕ → List Entry → Found
+unfoldable pub first_message : ℕ → ℕ → List Entry → Option ℕ
 first_message sender typ es = first_from 0 (is_message sender typ) es
 
 -- a message is there, and not reservations alone

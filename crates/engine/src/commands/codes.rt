@@ -1,35 +1,26 @@
-// Commands, and how they are coded in eight bytes.
+// Commands, and how they are coded in eight bytes. Functions, and no impl From: of a public type each would be one more public call.
 ghost use Rattle.std.specs.Prelude.{◌≡◌, cond, ◌+◌, ◌*◌, ◌≤◌, eqb, length, take, drop};
 ghost use Rattle.engine.specs.commands.Codes.{command_from, coded_in, bytes_from, bytes_of};
 
 use crate::{Coded, Command};
 
-// A number of four bytes, low first.
-pub(crate) fn word_of(a: u8, b: u8, c: u8, d: u8) -> u32
-    ensures { result ≡ a + 256 * b + 65536 * c + 16777216 * d }
-{
-    a as u32 + 256 * (b as u32) + 65536 * (c as u32) + 16777216 * (d as u32)
-}
-
 // The command with a code; Tick for 8 and for what is no code.
+#[tactic(auto, unfolding(crate::specs::commands::Codes::command_from))]
 pub(crate) fn command_from(code: u8, subject: u8, exit: u8, word: u32) -> Command
     ensures { result ≡ command_from code subject exit word }
 {
     match code {
         1 => Command::Do {
-            subject: subject,
-            exit: exit,
-            word: word,
+            subject,
+            exit,
+            word,
         },
-        2 => Command::Reserve { subject: subject },
-        3 => Command::Deliver { subject: subject },
-        4 => Command::Take {
-            subject: subject,
-            exit: exit,
-        },
-        5 => Command::Run { subject: subject },
-        6 => Command::Expire { subject: subject },
-        7 => Command::Cancel { subject: subject },
+        2 => Command::Reserve { subject },
+        3 => Command::Deliver { subject },
+        4 => Command::Take { subject, exit },
+        5 => Command::Run { subject },
+        6 => Command::Expire { subject },
+        7 => Command::Cancel { subject },
         _ => Command::Tick,
     }
 }
@@ -42,10 +33,10 @@ pub(crate) fn shown_of(code: u8, subject: u8) -> u8
 }
 
 // The command in eight bytes.
-fn coded(b: [u8; 8]) -> Coded
-    ensures { result ≡ coded_in b }
+fn coded(b: &[u8; 8]) -> Coded
+    ensures { result ≡ coded_in b.now }
 {
-    let word = word_of(b[4], b[5], b[6], b[7]);
+    let word = u32::from_le_bytes([b[4], b[5], b[6], b[7]]);
     Coded {
         code: b[0],
         shown: shown_of(b[0], b[1]),
@@ -53,48 +44,24 @@ fn coded(b: [u8; 8]) -> Coded
     }
 }
 
-// The eight bytes from place p on.
-fn bytes_at(tape: &[u8], p: usize) -> [u8; 8]
-    requires { p + 8 ≤ length tape.now }
-    ensures { result ≡ take 8 (drop p tape.now) }
-{
-    [
-        tape[p],
-        tape[p + 1],
-        tape[p + 2],
-        tape[p + 3],
-        tape[p + 4],
-        tape[p + 5],
-        tape[p + 6],
-        tape[p + 7],
-    ]
-}
-
 // Command i of a tape.
 pub(crate) fn command_at(tape: &[u8], i: usize) -> Coded
     requires { 8 * i + 8 ≤ length tape.now }
     ensures { result ≡ coded_in (take 8 (drop (8 * i) tape.now)) }
 {
-    coded(bytes_at(tape, 8 * i))
+    coded(tape[8 * i..].first_chunk().unwrap())
 }
 
 // A command in eight bytes: fields that it lacks are 0.
 fn bytes_from(code: u8, subject: u8, exit: u8, word: u32) -> [u8; 8]
     ensures { result ≡ bytes_from code subject exit word }
 {
-    [
-        code,
-        subject,
-        exit,
-        0,
-        (word % 256) as u8,
-        (word / 256 % 256) as u8,
-        (word / 65536 % 256) as u8,
-        (word / 16777216) as u8,
-    ]
+    let [a, b, c, d] = word.to_le_bytes();
+    [code, subject, exit, 0, a, b, c, d]
 }
 
 // A command as it stands on a tape.
+#[tactic(auto, unfolding(crate::specs::commands::Codes::bytes_of))]
 pub(crate) fn bytes_of(k: Command) -> [u8; 8]
     ensures { result ≡ bytes_of k }
 {

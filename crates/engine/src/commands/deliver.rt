@@ -1,66 +1,59 @@
 // Deliver: the reservations of a sender become messages, and receivers start.
 ghost use Rattle.std.specs.Prelude.{◌≡◌, true, [], ◌∷◌};
 ghost use Rattle.engine.specs.commands.Deliver.{started, delivered_as};
-ghost use Rattle.engine.specs.commands.Rules.{wrong_kind, place_missing, first_number};
+ghost use Rattle.engine.specs.commands.Rules.{wrong_kind, place_missing};
 ghost use Rattle.engine.specs.inner.Spine.{improper_among};
+ghost use Rattle.engine.specs.inner.Refusals.{first_refusal};
+ghost use Rattle.engine.specs.declared.Rule.TheVariants.{WrongKind, PlaceMissing, Improper};
 
 use super::rules;
 use crate::pools::changes;
-use crate::{Config, Subject};
-use model::{MOST_SUBJECTS, State};
-use sets::both;
+use crate::{Config, Rule, Subject};
+use model::State;
 
 // One of a mask has ended improperly. Most commands ask of none.
-pub(crate) fn some_improper(mask: u16, c: Config) -> bool
-    ensures { result ≡ improper_among mask c }
+pub(crate) fn some_improper(mask: u16, c: &Config) -> bool
+    ensures { result ≡ improper_among mask c.now }
 {
-    if mask == 0 {
-        return false;
-    }
-    let mut r: usize = 0;
-    while r < MOST_SUBJECTS {
-        if both(sets::has(mask, r as u8), c.subjects[r].mode == 3) {
-            return true;
-        }
-        r += 1;
-    }
-    false
+    mask != 0 && (0..16).any(|r| sets::has(mask, r) && c.subjects[r as usize].mode == 3)
 }
 
 // What refuses it.
-pub(crate) fn refuse(here: State, x: Subject, improper: bool) -> u8
-    ensures { result ≡ first_number ((wrong_kind 2 here, 13) ∷ (place_missing here x, 16) ∷ (improper, 17) ∷ []) }
+#[tactic(auto, unfolding(crate::specs::inner::Refusals::first_refusal))]
+pub(crate) fn refuse(here: State, x: Subject, improper: bool) -> Result<(), Rule>
+    ensures { result ≡ first_refusal ((wrong_kind 2 here, WrongKind) ∷ (place_missing here x, PlaceMissing) ∷ (improper, Improper) ∷ []) }
 {
     if here.kind != 2 {
-        return 13;
+        Err(Rule::WrongKind)
+    } else if rules::place_missing(here, x) {
+        Err(Rule::PlaceMissing)
+    } else if improper {
+        Err(Rule::Improper)
+    } else {
+        Ok(())
     }
-    if rules::place_missing(here, x) {
-        return 16;
-    }
-    if improper { 17 } else { 0 }
 }
 
 // Asleep or ended properly, a receiver starts at its initial state; its marks and its pool stay.
-fn start(initial: u8, x: Subject) -> Subject
+#[tactic(auto, unfolding(crate::specs::commands::Deliver::started))]
+fn start(initial: u8, mut x: Subject) -> Subject
     ensures { result ≡ started initial x }
 {
-    if !sets::either(x.mode == 0, x.mode == 2) {
-        return x;
+    if x.mode == 0 || x.mode == 2 {
+        x.mode = 1;
+        x.state = initial;
+        x.waited = 0;
+        x.word = 0;
+        x.mask = 0;
     }
-    let mut y = x;
-    y.mode = 1;
-    y.state = initial;
-    y.waited = 0;
-    y.word = 0;
-    y.mask = 0;
-    y
+    x
 }
 
 // A receiver: the reservation of s becomes the message with the word, and it starts where it may.
-pub(crate) fn receive(initial: u8, s: u8, word: u32, x: Subject) -> Subject
+#[tactic(auto, unfolding(crate::specs::commands::Deliver::delivered_as))]
+pub(crate) fn receive(initial: u8, s: u8, word: u32, mut x: Subject) -> Subject
     ensures { result ≡ delivered_as true initial s word x }
 {
-    let mut y = x;
-    y.pool = changes::deliver(x.pool, s, word);
-    start(initial, y)
+    x.pool = changes::deliver(x.pool, s, word);
+    start(initial, x)
 }

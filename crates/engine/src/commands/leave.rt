@@ -3,43 +3,47 @@ ghost use Rattle.std.specs.Prelude.{◌≡◌, [], ◌∷◌};
 ghost use Rattle.engine.specs.pools.Sizes.{most_entries};
 ghost use Rattle.engine.specs.pools.Pools.{withdrawn_from};
 ghost use Rattle.engine.specs.configs.Subjects.{with_pool};
-ghost use Rattle.engine.specs.commands.Rules.{no_timeout, too_early, can_deliver, no_cancel, first_number};
+ghost use Rattle.engine.specs.commands.Rules.{no_timeout, too_early, can_deliver, no_cancel};
+ghost use Rattle.engine.specs.inner.Refusals.{first_refusal};
+ghost use Rattle.engine.specs.declared.Rule.TheVariants.{NoTarget, TooEarly, CanDeliver};
 
 use super::rules;
-use crate::Subject;
 use crate::pools::changes;
+use crate::{Rule, Subject};
 use model::State;
-use sets::both;
 
 // What refuses Expire.
-pub(crate) fn refuse_expire(here: State, x: Subject, improper: bool) -> u8
-    ensures { result ≡ first_number ((no_timeout here, 18) ∷ (too_early here x, 19) ∷ (can_deliver here x improper, 20) ∷ []) }
+#[tactic(auto, unfolding(crate::specs::inner::Refusals::first_refusal, crate::specs::commands::Rules::can_deliver))]
+pub(crate) fn refuse_expire(here: State, x: Subject, improper: bool) -> Result<(), Rule>
+    ensures { result ≡ first_refusal ((no_timeout here, NoTarget) ∷ (too_early here x, TooEarly) ∷ (can_deliver here x improper, CanDeliver) ∷ []) }
 {
     if here.timeout == 255 {
-        return 18;
+        Err(Rule::NoTarget)
+    } else if x.waited < here.after {
+        Err(Rule::TooEarly)
+    } else if here.kind == 2 && !rules::place_missing(here, x) && !improper {
+        Err(Rule::CanDeliver)
+    } else {
+        Ok(())
     }
-    if x.waited < here.after {
-        return 19;
-    }
-    let can = both(
-        here.kind == 2,
-        both(!rules::place_missing(here, x), !improper),
-    );
-    if can { 20 } else { 0 }
 }
 
 // What refuses Cancel.
-pub(crate) fn refuse_cancel(here: State) -> u8
-    ensures { result ≡ first_number ((no_cancel here, 18) ∷ []) }
+#[tactic(auto, unfolding(crate::specs::inner::Refusals::first_refusal))]
+pub(crate) fn refuse_cancel(here: State) -> Result<(), Rule>
+    ensures { result ≡ first_refusal ((no_cancel here, NoTarget) ∷ []) }
 {
-    if here.cancel == 255 { 18 } else { 0 }
+    if here.cancel == 255 {
+        Err(Rule::NoTarget)
+    } else {
+        Ok(())
+    }
 }
 
 // A subject from whose pool s withdraws.
-pub(crate) fn withdrawn(s: u8, x: Subject) -> Subject
+pub(crate) fn withdrawn(s: u8, mut x: Subject) -> Subject
     ensures { result ≡ with_pool (withdrawn_from most_entries s x.pool) x }
 {
-    let mut y = x;
-    y.pool = changes::withdraw(x.pool, s);
-    y
+    x.pool = changes::withdraw(x.pool, s);
+    x
 }

@@ -6,73 +6,72 @@ ghost use Rattle.engine.specs.pools.Sizes.{most_entries};
 ghost use Rattle.engine.specs.pools.Pools.{Well};
 ghost use Rattle.engine.specs.configs.Subjects.{with_mask};
 ghost use Rattle.engine.specs.commands.Reserve.{reply_of, with_place, noted};
-ghost use Rattle.engine.specs.commands.Rules.{wrong_kind, first_number};
+ghost use Rattle.engine.specs.commands.Rules.{wrong_kind};
 ghost use Rattle.engine.specs.inner.Spine.{no_places, reached_as, answer_of};
 ghost use Rattle.engine.specs.declared.Command.TheVariants.{Reserve};
 ghost use Rattle.engine.specs.declared.Reply.TheVariants.{Placed};
+ghost use Rattle.engine.specs.inner.Refusals.{first_refusal};
+ghost use Rattle.engine.specs.declared.Rule.TheVariants.{WrongKind};
 
 use super::rules;
 use crate::pools::{changes, rows};
-use crate::{Answer, Entry, Places, Reached, Reply, Subject};
+use crate::{Answer, Entry, Places, Reached, Reply, Rule, Subject};
 use model::State;
 
 // What refuses it.
-pub(crate) fn refuse(here: State) -> u8
-    ensures { result ≡ first_number ((wrong_kind 2 here, 13) ∷ []) }
+#[tactic(auto, unfolding(crate::specs::inner::Refusals::first_refusal))]
+pub(crate) fn refuse(here: State) -> Result<(), Rule>
+    ensures { result ≡ first_refusal ((wrong_kind 2 here, WrongKind) ∷ []) }
 {
-    if here.kind != 2 { 13 } else { 0 }
+    if here.kind != 2 {
+        Err(Rule::WrongKind)
+    } else {
+        Ok(())
+    }
 }
 
 // The marks of a sender say that the queue is closed for this type.
+#[tactic(auto, unfolding(sets::specs::Masks::bit))]
 fn is_marked(mark: u32, typ: u8) -> bool
     ensures { result ≡ bit mark typ }
 {
-    if typ < 32 {
-        return (mark >> typ) % 2 == 1;
-    }
-    false
+    typ < 32 && (mark >> typ) % 2 == 1
 }
 
 // What a receiver answers: ended improperly, else closed for this sender and type, else full, else there is a place.
+#[tactic(auto, unfolding(crate::specs::commands::Reserve::reply_of, crate::specs::commands::Reserve::is_closed))]
 fn reply_of(owner: model::Subject, x: Subject, sender: u8, typ: u8) -> Reply
     requires { sender < most_subjects }
     ensures { result ≡ reply_of owner x sender typ }
 {
     if x.mode == 3 {
-        return Reply::Improper;
+        Reply::Improper
+    } else if is_marked(x.closed[sender as usize], typ) {
+        Reply::Closed
+    } else if !rows::has_room(owner, &x.pool, sender, typ) {
+        Reply::Full
+    } else {
+        Reply::Placed
     }
-    let from = sender as usize;
-    if is_marked(x.closed[from], typ) {
-        return Reply::Closed;
-    }
-    if !rows::has_room(owner, x.pool, sender, typ) {
-        return Reply::Full;
-    }
-    Reply::Placed
 }
 
 // Where there is a place, a reservation is put at the end of the pool.
-fn with_place(reply: Reply, sender: u8, typ: u8, x: Subject) -> Subject
+#[tactic(auto, unfolding(crate::specs::commands::Reserve::with_place))]
+fn with_place(reply: Reply, sender: u8, typ: u8, mut x: Subject) -> Subject
     requires well { Well most_entries x.pool }
     requires count_lt_most_entries { reply ≡ Placed → x.pool.count < most_entries }
     ensures { result ≡ with_place reply sender typ x }
 {
-    match reply {
-        Reply::Placed => {
-            let e = Entry {
-                sender: sender,
-                typ: typ,
-                message: false,
-                content: 0,
-            };
-            let mut y = x;
-            y.pool = changes::append(x.pool, e);
-            y
-        }
-        Reply::Improper => x,
-        Reply::Closed => x,
-        Reply::Full => x,
+    if matches!(reply, Reply::Placed) {
+        let reservation = Entry {
+            sender,
+            typ,
+            message: false,
+            content: 0,
+        };
+        x.pool = changes::append(x.pool, reservation);
     }
+    x
 }
 
 // Before the first answer: the sender's mask, and no one in the four others.
@@ -80,38 +79,35 @@ pub(crate) fn no_places(mask: u16) -> Places
     ensures { result ≡ no_places mask }
 {
     Places {
-        mask: mask,
-        placed: 0,
-        improper: 0,
-        closed: 0,
-        full: 0,
+        mask,
+        ..Places::default()
     }
 }
 
 // The receiver is noted in the mask of its answer; where it is placed, the sender's mask grows.
+#[tactic(auto, unfolding(crate::specs::commands::Reserve::noted))]
 fn noted(reply: Reply, r: u8, places: Places) -> Places
     requires { r < most_subjects }
     ensures { result ≡ noted reply r places }
 {
-    let mut p = places;
     match reply {
-        Reply::Placed => {
-            p.mask = sets::with(p.mask, r);
-            p.placed = sets::with(p.placed, r);
-            p
-        }
-        Reply::Improper => {
-            p.improper = sets::with(p.improper, r);
-            p
-        }
-        Reply::Closed => {
-            p.closed = sets::with(p.closed, r);
-            p
-        }
-        Reply::Full => {
-            p.full = sets::with(p.full, r);
-            p
-        }
+        Reply::Placed => Places {
+            mask: sets::with(places.mask, r),
+            placed: sets::with(places.placed, r),
+            ..places
+        },
+        Reply::Improper => Places {
+            improper: sets::with(places.improper, r),
+            ..places
+        },
+        Reply::Closed => Places {
+            closed: sets::with(places.closed, r),
+            ..places
+        },
+        Reply::Full => Places {
+            full: sets::with(places.full, r),
+            ..places
+        },
     }
 }
 
@@ -138,15 +134,15 @@ pub(crate) fn asked(
 }
 
 // The sender with its mask as it has grown.
-pub(crate) fn with_mask(mask: u16, me: Subject) -> Subject
+pub(crate) fn with_mask(mask: u16, mut me: Subject) -> Subject
     ensures { result ≡ with_mask mask me }
 {
-    let mut x = me;
-    x.mask = mask;
-    x
+    me.mask = mask;
+    me
 }
 
 // The four masks and the number of receivers still without a place.
+#[tactic(auto, unfolding(crate::specs::inner::Spine::parts_of))]
 pub(crate) fn answer(here: State, places: Places) -> Answer
     ensures { result ≡ answer_of here places (Reserve 0) }
 {

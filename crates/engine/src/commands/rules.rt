@@ -1,81 +1,98 @@
-// The refusals of a step: the number of the first rule that holds, 0 where none does.
+// The refusals of a step: the first rule that holds.
 ghost use Rattle.std.specs.Prelude.{◌≡◌, not, cond, eqb};
 ghost use Rattle.model.specs.Valid.{exit_at};
-ghost use Rattle.engine.specs.commands.Rules.{not_there, place_missing};
+ghost use Rattle.engine.specs.commands.Rules.{not_there, not_running, place_missing};
 ghost use Rattle.engine.specs.inner.Spine.{asks_of, number_for};
+ghost use Rattle.std.specs.Prelude.{[], ◌∷◌};
+ghost use Rattle.engine.specs.inner.Refusals.{number_told, first_refusal};
+ghost use Rattle.engine.specs.declared.Rule.TheVariants.{NotThere, NotRunning};
 
+use super::turns::Turn;
 use super::{deliver, doing, leave, reserve, runs, take};
-use crate::{Command, Subject};
-use model::{Exit, MOST_EXITS, State};
+use crate::{Command, Rule, Subject};
+use model::{Exit, State};
 
 // Exit e of a state, blank past the last place.
 pub(crate) fn exit_at(here: State, e: u8) -> Exit
     ensures { result ≡ exit_at here e }
 {
-    let i = e as usize;
-    if i < MOST_EXITS {
-        return here.exit[i];
-    }
-    Exit {
-        target: 0,
-        sender: 0,
-        typ: 0,
-    }
+    here.exit.get(e as usize).copied().unwrap_or_default()
 }
 
 // A receiver is not in the mask.
+#[tactic(auto, unfolding(crate::specs::commands::Rules::place_missing))]
 pub(crate) fn place_missing(here: State, x: Subject) -> bool
     ensures { result ≡ place_missing here x }
 {
     sets::missing(here.receivers, x.mask) != 0
 }
 
-// 11 where the subject is not there, 12 where it does not run; then what comes next.
-fn named(n: u8, s: u8, mode: u8, next: u8) -> u8
-    ensures { result ≡ cond (not_there n s) 11 (cond (not (eqb mode 1)) 12 next) }
-{
-    if n <= s {
-        return 11;
-    }
-    if mode != 1 {
-        return 12;
-    }
-    next
-}
-
-// The receivers whose end a refusal depends on.
-pub(crate) fn asks_of(here: State, k: Command) -> u16
-    ensures { result ≡ asks_of here k }
-{
-    match k {
-        Command::Deliver { subject: _ } | Command::Expire { subject: _ } => here.receivers,
-        _ => 0,
-    }
-}
-
-// The refusal of a command with a code, by what its rules read; 9 where it is no code.
-pub(crate) fn number_for(code: u8, n: u8, here: State, x: Subject, improper: bool, k: Command) -> u8
-    ensures { result ≡ number_for code n here x improper k }
-{
-    if !sets::is_within(1, code, 8) {
-        return 9;
-    }
-    match k {
-        Command::Do {
-            subject,
-            exit,
-            word: _,
-        } => named(n, subject, x.mode, doing::refuse(here, exit)),
-        Command::Reserve { subject } => named(n, subject, x.mode, reserve::refuse(here)),
-        Command::Deliver { subject } => {
-            named(n, subject, x.mode, deliver::refuse(here, x, improper))
+impl Turn {
+    // The receivers whose end a refusal depends on.
+    #[tactic(auto, unfolding(crate::specs::inner::Spine::parts_of))]
+    pub(crate) fn asks(&self) -> u16
+        ensures { result ≡ asks_of self.now.here self.now.command }
+    {
+        match self.command {
+            Command::Deliver { .. } | Command::Expire { .. } => self.here.receivers,
+            _ => 0,
         }
-        Command::Take { subject, exit } => named(n, subject, x.mode, take::refuse(here, exit, x)),
-        Command::Run { subject } => named(n, subject, x.mode, runs::refuse(here)),
-        Command::Expire { subject } => {
-            named(n, subject, x.mode, leave::refuse_expire(here, x, improper))
+    }
+
+    // The subject is there and runs.
+    #[tactic(auto, unfolding(crate::specs::inner::Refusals::first_refusal))]
+    fn standing(&self, subject: u8) -> Result<(), Rule>
+        ensures { result ≡ first_refusal ((not_there self.now.n subject, NotThere) ∷ (not_running self.now.me, NotRunning) ∷ []) }
+    {
+        if self.n <= subject {
+            Err(Rule::NotThere)
+        } else if self.me.mode != 1 {
+            Err(Rule::NotRunning)
+        } else {
+            Ok(())
         }
-        Command::Cancel { subject } => named(n, subject, x.mode, leave::refuse_cancel(here)),
-        Command::Tick => 0,
+    }
+
+    // What refuses the command, by what its rules read.
+    #[tactic(auto, unfolding(crate::specs::inner::Spine::number_for, crate::specs::inner::Refusals::first_refusal, crate::specs::commands::Rules::first_number))]
+    pub(crate) fn judged(&self, improper: bool) -> Result<(), Rule>
+        ensures { number_told result ≡ number_for self.now.code self.now.n self.now.here self.now.me improper self.now.command }
+    {
+        if !sets::is_within(1, self.code, 8) {
+            return Err(Rule::NoCode);
+        }
+        let here = self.here;
+        let me = self.me;
+        match self.command {
+            Command::Do { subject, exit, .. } => {
+                self.standing(subject)?;
+                doing::refuse(here, exit)
+            }
+            Command::Reserve { subject } => {
+                self.standing(subject)?;
+                reserve::refuse(here)
+            }
+            Command::Deliver { subject } => {
+                self.standing(subject)?;
+                deliver::refuse(here, me, improper)
+            }
+            Command::Take { subject, exit } => {
+                self.standing(subject)?;
+                take::refuse(here, exit, me)
+            }
+            Command::Run { subject } => {
+                self.standing(subject)?;
+                runs::refuse(here)
+            }
+            Command::Expire { subject } => {
+                self.standing(subject)?;
+                leave::refuse_expire(here, me, improper)
+            }
+            Command::Cancel { subject } => {
+                self.standing(subject)?;
+                leave::refuse_cancel(here)
+            }
+            Command::Tick => Ok(()),
+        }
     }
 }

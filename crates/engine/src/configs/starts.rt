@@ -3,37 +3,41 @@ ghost use Rattle.std.specs.Prelude.{◌≡◌, cond};
 ghost use Rattle.engine.specs.configs.Subjects.{nobody};
 ghost use Rattle.engine.specs.configs.Fresh.{starting, fresh_config, fresh_of};
 
-use super::subjects;
 use crate::{Answer, Config, Stepped, Subject};
-use model::{MOST_SUBJECTS, Model};
+use model::Model;
+use std::array;
 
 // A subject that is there starts in its initial state, running or asleep.
 fn fresh_subject(there: bool, runs: bool, initial: u8) -> Subject
     ensures { result ≡ cond there (starting (cond runs 1 0) initial) nobody }
 {
-    let mut x = subjects::nobody();
     if !there {
-        return x;
+        return Subject::default();
     }
-    x.state = initial;
+    let asleep = Subject {
+        state: initial,
+        ..Subject::default()
+    };
     if runs {
-        x.mode = 1;
+        Subject { mode: 1, ..asleep }
+    } else {
+        asleep
     }
-    x
 }
 
 // Every subject at its start.
 fn fresh_config(m: Model) -> Config
     ensures { result ≡ fresh_config m }
 {
-    let mut subjects = [subjects::nobody(); MOST_SUBJECTS];
-    let mut s: usize = 0;
-    while s < MOST_SUBJECTS {
-        let own = m.subjects[s];
-        subjects[s] = fresh_subject(s < m.n as usize, sets::has(m.start, s as u8), own.initial);
-        s += 1;
+    Config {
+        subjects: array::from_fn(|s| {
+            fresh_subject(
+                s < m.n as usize,
+                sets::has(m.start, s as u8),
+                m.subjects[s].initial,
+            )
+        }),
     }
-    Config { subjects: subjects }
 }
 
 // The fresh start of a model; of a model that is not valid the all-zero configuration, refused.
@@ -42,9 +46,7 @@ pub fn fresh(m: Model) -> Stepped
 {
     if !model::is_valid(m) {
         return Stepped {
-            config: Config {
-                subjects: [subjects::nobody(); MOST_SUBJECTS],
-            },
+            config: Config::default(),
             answer: Answer::Refused(8),
         };
     }

@@ -1,54 +1,34 @@
 // What the steps do to a pool. Each gives a new pool.
-ghost use Rattle.std.specs.Prelude.{◌≡◌, [], ◌<◌};
+ghost use Rattle.std.specs.Prelude.{◌≡◌, ℕ, ◌<◌, Option, filter_map};
+ghost use Rattle.std.specs.List.{enumerate_from};
 ghost use Rattle.engine.specs.pools.Sizes.{most_entries};
-ghost use Rattle.engine.specs.pools.Pools.{pooled, appended, taken_at, delivered_in, withdrawn_from, Well};
+ghost use Rattle.engine.specs.pools.Pools.{held, pooled, appended, taken_at, delivered_in, withdrawn_from, Well};
 
-use super::{entries, searches};
-use crate::{Entry, MOST_ENTRIES, Pool, Taken};
-
-// A pool without entries.
-fn empty_pool() -> Pool
-    ensures { result ≡ pooled most_entries [] }
-{
-    Pool {
-        entries: [Entry {
-            sender: 0,
-            typ: 0,
-            message: false,
-            content: 0,
-        }; MOST_ENTRIES],
-        count: 0,
-    }
-}
+use super::entries;
+use crate::{Entry, Pool, Taken};
 
 // One more entry, at the end.
-pub(crate) fn append(p: Pool, e: Entry) -> Pool
+pub(crate) fn append(mut p: Pool, e: Entry) -> Pool
     requires well { Well most_entries p }
     requires count_lt_most_entries { p.count < most_entries }
     ensures { result ≡ appended most_entries p e }
 {
-    let at = p.count as usize;
-    let mut q = p;
-    q.entries[at] = e;
-    q.count = p.count + 1;
-    q
+    p.entries[p.count as usize] = e;
+    p.count += 1;
+    p
 }
 
-// The pool without the entry at place i; those behind it move up.
-fn without(p: Pool, i: usize) -> Pool
-    ensures { result ≡ (taken_at most_entries p i).pool }
+// The pool of what f gives of each place and its entry, in order. An entry of which it gives nothing leaves; those behind it move up.
+fn rebuilt<F: Fn(usize, Entry) -> Option<Entry>>(p: &Pool, f: F) -> Pool
+    requires { F.IsAlwaysCallable f }
+    ensures { (g : ℕ × Entry → Option Entry) → ((i : ℕ) (e : Entry) (r : Option Entry) → F.post f i e r → r ≡ g (i, e)) → result ≡ pooled most_entries (filter_map g (enumerate_from 0 (held p.now))) }
 {
-    let n = searches::used(p);
-    let mut q = empty_pool();
-    let mut j: usize = 0;
-    while j < n {
-        let e = p.entries[j];
-        if j != i {
-            let at = q.count as usize;
-            q.entries[at] = e;
-            q.count = q.count + 1;
+    let mut q = Pool::default();
+    for (j, e) in p.held().iter().enumerate() {
+        if let Some(x) = f(j, *e) {
+            q.entries[q.count as usize] = x;
+            q.count += 1;
         }
-        j += 1;
     }
     q
 }
@@ -57,17 +37,9 @@ fn without(p: Pool, i: usize) -> Pool
 pub(crate) fn take_at(p: Pool, i: usize) -> Taken
     ensures { result ≡ taken_at most_entries p i }
 {
-    let rest = without(p, i);
-    if i < searches::used(p) {
-        let e = p.entries[i];
-        return Taken {
-            content: e.content,
-            pool: rest,
-        };
-    }
     Taken {
-        content: 0,
-        pool: rest,
+        content: p.held().get(i).copied().unwrap_or_default().content,
+        pool: rebuilt(&p, |j, e| if j == i { None } else { Some(e) }),
     }
 }
 
@@ -75,36 +47,18 @@ pub(crate) fn take_at(p: Pool, i: usize) -> Taken
 pub(crate) fn deliver(p: Pool, sender: u8, word: u32) -> Pool
     ensures { result ≡ delivered_in most_entries sender word p }
 {
-    let n = searches::used(p);
-    let mut q = empty_pool();
-    let mut j: usize = 0;
-    while j < n {
-        q.entries[j] = entries::deliver_entry(p.entries[j], sender, word);
-        q.count = q.count + 1;
-        j += 1;
-    }
-    q
+    rebuilt(&p, |_, e| Some(entries::deliver_entry(e, sender, word)))
 }
 
 // The sender's reservations leave; the others keep their order.
 pub(crate) fn withdraw(p: Pool, sender: u8) -> Pool
     ensures { result ≡ withdrawn_from most_entries sender p }
 {
-    let n = searches::used(p);
-    let none = empty_pool();
-    let mut kept = none.entries;
-    let mut at: usize = 0;
-    let mut j: usize = 0;
-    while j < n {
-        let e = p.entries[j];
-        if !entries::reserved_by(e, sender, 255) {
-            kept[at] = e;
-            at += 1;
+    rebuilt(&p, |_, e| {
+        if entries::reserved_by(e, sender, 255) {
+            None
+        } else {
+            Some(e)
         }
-        j += 1;
-    }
-    Pool {
-        entries: kept,
-        count: at as u8,
-    }
+    })
 }

@@ -1,26 +1,24 @@
 // One entry: what it matches, and what it becomes.
+#![tactic(auto, unfolding(crate::specs::pools::Entries::is_message, crate::specs::pools::Entries::reserved_by, crate::specs::pools::Entries::delivered))]
+
 ghost use Rattle.std.specs.Prelude.{◌≡◌, cond, eqb};
 ghost use Rattle.model.specs.Rules.{any};
 ghost use Rattle.engine.specs.pools.Entries.{is_blank_entry, fits, matches, is_message, reserved_by, delivered};
 
 use crate::Entry;
-use sets::{both, either};
 
 // Nothing but zeros.
 pub(crate) fn is_blank_entry(e: Entry) -> bool
     ensures { result ≡ is_blank_entry e }
 {
-    both(
-        both(e.sender == 0, e.typ == 0),
-        both(!e.message, e.content == 0),
-    )
+    e == Entry::default()
 }
 
 // What is wanted, 255 for any, is what is there.
 pub(crate) fn fitting(wanted: u8, there: u8) -> bool
     ensures { result ≡ fits wanted there }
 {
-    either(wanted == 255, wanted == there)
+    wanted == 255 || wanted == there
 }
 
 // All ones where any is wanted, else none.
@@ -43,14 +41,14 @@ pub(crate) fn matching(e: Entry, sender: u8, typ: u8) -> bool
 pub(crate) fn message_matching(e: Entry, sender: u8, typ: u8) -> bool
     ensures { result ≡ is_message sender typ e }
 {
-    both(e.message, matching(e, sender, typ))
+    e.message && matching(e, sender, typ)
 }
 
 // A reservation of the sender, of the type, 255 for any.
 pub(crate) fn reserved_by(e: Entry, sender: u8, typ: u8) -> bool
     ensures { result ≡ reserved_by sender typ e }
 {
-    both(!e.message, both(e.sender == sender, fitting(typ, e.typ)))
+    !e.message && e.sender == sender && fitting(typ, e.typ)
 }
 
 // A reservation of the sender becomes a message with the word; other entries stay.
@@ -59,10 +57,9 @@ pub(crate) fn deliver_entry(e: Entry, sender: u8, word: u32) -> Entry
 {
     if reserved_by(e, sender, 255) {
         return Entry {
-            sender: e.sender,
-            typ: e.typ,
             message: true,
             content: word,
+            ..e
         };
     }
     e

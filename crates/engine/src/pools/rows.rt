@@ -1,74 +1,53 @@
 // The limit rows of a pool's owner.
-ghost use Rattle.std.specs.Prelude.{◌≡◌, ◌||◌, not, ◌<◌, ltb};
+#![tactic(auto, unfolding(crate::specs::pools::Rows::row_count, crate::specs::pools::Rows::row_kept, crate::specs::pools::Rows::row_has_room))]
+
+ghost use Rattle.std.specs.Prelude.{◌≡◌, min, take};
 ghost use Rattle.model.specs.Sizes.{most_rows};
-ghost use Rattle.model.specs.Valid.{row_at};
 ghost use Rattle.engine.specs.pools.Sizes.{most_entries};
 ghost use Rattle.engine.specs.pools.Pools.{held};
 ghost use Rattle.engine.specs.pools.Rows.{row_kept, row_has_room, rows_kept, has_room};
 
 use super::{entries, searches};
 use crate::{MOST_ENTRIES, Pool};
-use model::{MOST_ROWS, Subject};
-use sets::both;
+use model::{MOST_ROWS, Row, Subject};
 
-// At most its limit of entries match row k, where the owner has one.
-fn row_kept(owner: Subject, k: usize, p: Pool) -> bool
-    requires { k < most_rows }
-    ensures { result ≡ (not (ltb k owner.rows) || row_kept (held p) (row_at owner k)) }
+// The rows that an owner has: as many as it says, and no more than its places for them.
+pub(crate) fn rows_of(owner: &Subject) -> &[Row]
+    ensures { result.now ≡ take (min owner.now.rows most_rows) owner.now.row }
 {
-    if owner.rows as usize <= k {
-        return true;
-    }
-    let w = owner.row[k];
-    searches::count(p, w.sender, w.typ) <= w.limit
+    &owner.row[..usize::min(owner.rows as usize, MOST_ROWS)]
 }
 
-// Row k leaves room for an entry of this sender and type, where the owner has one.
-fn row_has_room(owner: Subject, k: usize, p: Pool, sender: u8, typ: u8) -> bool
-    requires { k < most_rows }
-    ensures { result ≡ (not (ltb k owner.rows) || row_has_room sender typ (held p) (row_at owner k)) }
+// At most its limit of entries match the row.
+fn row_kept(w: Row, p: &Pool) -> bool
+    ensures { result ≡ row_kept (held p.now) w }
 {
-    if owner.rows as usize <= k {
-        return true;
+    searches::count(p, w.sender, w.typ) <= w.limit as usize
+}
+
+// The row leaves room for an entry of this sender and type.
+fn row_has_room(w: Row, p: &Pool, sender: u8, typ: u8) -> bool
+    ensures { result ≡ row_has_room sender typ (held p.now) w }
+{
+    if entries::fitting(w.sender, sender) && entries::fitting(w.typ, typ) {
+        return searches::count(p, w.sender, w.typ) < w.limit as usize;
     }
-    let w = owner.row[k];
-    let asked = both(
-        entries::fitting(w.sender, sender),
-        entries::fitting(w.typ, typ),
-    );
-    if !asked {
-        return true;
-    }
-    searches::count(p, w.sender, w.typ) < w.limit
+    true
 }
 
 // Every limit row is kept.
-pub(crate) fn rows_kept(owner: Subject, p: Pool) -> bool
-    ensures { result ≡ rows_kept owner (held p) }
+pub(crate) fn rows_kept(owner: Subject, p: &Pool) -> bool
+    ensures { result ≡ rows_kept owner (held p.now) }
 {
-    let mut k: usize = 0;
-    while k < MOST_ROWS {
-        if !row_kept(owner, k, p) {
-            return false;
-        }
-        k += 1;
-    }
-    true
+    rows_of(&owner).iter().all(|w| row_kept(*w, p))
 }
 
 // A place is free and every matching row has room.
-pub(crate) fn has_room(owner: Subject, p: Pool, sender: u8, typ: u8) -> bool
-    ensures { result ≡ has_room most_entries owner (held p) sender typ }
+pub(crate) fn has_room(owner: Subject, p: &Pool, sender: u8, typ: u8) -> bool
+    ensures { result ≡ has_room most_entries owner (held p.now) sender typ }
 {
-    if MOST_ENTRIES <= searches::used(p) {
-        return false;
-    }
-    let mut k: usize = 0;
-    while k < MOST_ROWS {
-        if !row_has_room(owner, k, p, sender, typ) {
-            return false;
-        }
-        k += 1;
-    }
-    true
+    p.held().len() < MOST_ENTRIES
+        && rows_of(&owner)
+            .iter()
+            .all(|w| row_has_room(*w, p, sender, typ))
 }

@@ -15,14 +15,12 @@ loop-i-init c = search rules
 pub loop-i-preserved : goal.loop-i-preserved
 unfolding config_after
 loop-i-preserved c =
-    let inv = c.loop-i.invariant in
     let tape = c.args.tape.now in
     let less = c.loop-i-test.true in
     let eight : c.eight_of.result ≡ bytes_at tape c.loop-i.i = c.eight_of.ensures ∙ ap eight_of c.rest.ensures ∙ eight_rest (8 * c.loop-i.i) tape (omega arith) in
-    (search rules, rw (c.step_coded-done.ensures, eight, inv.1, add-one))
+    rw (c.step_coded.ensures, eight, c.loop-i.invariant, add-one)
 
 pub returns : goal.returns
 returns c =
-    let inv = c.loop-i.invariant in
-    let all : c.loop-i.i ≡ commands c.args.tape.now = omega (arith, inv.0, c.loop-i-test.false) in
-    rw (inv.1, all)
+    let all : c.loop-i.i ≡ commands c.args.tape.now = omega (arith, c.loop-i.auto.i-end, c.loop-i-test.false) in
+    rw (c.loop-i.invariant, all)

@@ -1,37 +1,41 @@
-use mathlib.Core.Path.{◌≡◌, refl, ap, ◌∙◌}
-use mathlib.Core.Bool.{true, ◌&&◌, not}
-use mathlib.Core.List.{[], ◌∷◌}
-use Rattle.blocks.specs.Verdicts as verdicts
+use mathlib.Core.Path.{◌≡◌, refl}
+use mathlib.Core.Bool.{◌&&◌}
 use Rattle.model.specs.Valid.{valid}
-use Rattle.model.specs.declared.Loaded.{Loaded}
 use Rattle.engine.specs.configs.Valid.{config_valid}
-use Rattle.engine.specs.commands.Rules.{first_number}
-use Rattle.exported.specs.Bytes.{config_from, is_config}
+use Rattle.exported.specs.Bytes.{config_from}
 use Rattle.exported.specs.Calls.{model_in}
-use Rattle.exported.proofs.CallLaws.{first_is, config_room, walk_passed, walk_first, walk_last, walk_done}
+use Rattle.exported.proofs.CallLaws.{config_room, walk_passed, walk_first, walk_last, walk_done}
 use Rattle.exported.proofs.zs_walk.Goals as goal
+use Rattle.exported.proofs.zs_walk.Goals.{After-is_valid}
 
-pub returns-then-first-ne0 : goal.returns-then-first-ne0
-returns-then-first-ne0 c =
-    let first : let a = c.args in c.first_refusal-first.result ≡ first_number ((not (valid (model_in a.file.now)), 8) ∷ (not true, 9) ∷ (not (is_config a.config.now), 10) ∷ []) = (first_is _ _ _ _ true true _ (c.refusal.ensures ∙ ap (λ (x : Loaded). verdicts.refusal_of x.verdict) c.load-loaded.ensures) refl c.is_config.ensures c.first_refusal-first.ensures) in
-    let done = walk_first c.args.file.now c.args.config.now c.args.tape.now _ first c.if-first-ne0.true in
+-- whether the model and the configuration that are read are valid
+judged : (r : After-is_valid) → r.is_valid.result ≡ (valid (model_in r.args.file.now) && config_valid (model_in r.args.file.now) (config_from r.args.config.now))
+judged r = rw (r.is_valid.ensures, r.in-Ok.ensures.ok.1, r.in-Ok.ensures.ok.2)
+
+pub returns-in-Err : goal.returns-in-Err
+returns-in-Err c =
+    let a = c.args in
+    let e = c.in-Err.ensures.err in
+    let done = walk_first a.file.now a.config.now a.tape.now _ e.0 e.1 in
     record { result = done.0; config = done.1 }
 
 pub returns-then-not-is_valid : goal.returns-then-not-is_valid
 returns-then-not-is_valid c =
-    let first : let a = c.args in c.first_refusal-first.result ≡ first_number ((not (valid (model_in a.file.now)), 8) ∷ (not true, 9) ∷ (not (is_config a.config.now), 10) ∷ []) = (first_is _ _ _ _ true true _ (c.refusal.ensures ∙ ap (λ (x : Loaded). verdicts.refusal_of x.verdict) c.load-loaded.ensures) refl c.is_config.ensures c.first_refusal-first.ensures) in
-    let judged : let a = c.args in c.is_valid.result ≡ (valid (model_in a.file.now) && config_valid (model_in a.file.now) (config_from a.config.now)) = (rw (c.is_valid.ensures, c.config_from-c.ensures, c.load-loaded.ensures)) in
-    let done = walk_last c.args.file.now c.args.config.now c.args.tape.now _ first _ judged c.if-first-ne0.false (c.if-not-is_valid.true) in
+    let a = c.args in
+    let ok = c.in-Ok.ensures.ok in
+    let r = (goal.at.returns-then-not-is_valid c).After-is_valid in
+    let done = walk_last a.file.now a.config.now a.tape.now _ refl _ (judged r) ok.0 c.if-not-is_valid.true in
     record { result = done.0; config = done.1 }
 
 pub put_config-requires : goal.put_config-requires
 put_config-requires c =
-    let first : let a = c.args in c.first_refusal-first.result ≡ first_number ((not (valid (model_in a.file.now)), 8) ∷ (not true, 9) ∷ (not (is_config a.config.now), 10) ∷ []) = (first_is _ _ _ _ true true _ (c.refusal.ensures ∙ ap (λ (x : Loaded). verdicts.refusal_of x.verdict) c.load-loaded.ensures) refl c.is_config.ensures c.first_refusal-first.ensures) in
-    config_room _ (walk_passed _ _ c.args.tape.now _ first c.if-first-ne0.false).config
+    let a = c.args in
+    config_room _ (walk_passed a.file.now a.config.now a.tape.now _ refl c.in-Ok.ensures.ok.0).config
 
 pub returns : goal.returns
 returns c =
-    let first : let a = c.args in c.first_refusal-first.result ≡ first_number ((not (valid (model_in a.file.now)), 8) ∷ (not true, 9) ∷ (not (is_config a.config.now), 10) ∷ []) = (first_is _ _ _ _ true true _ (c.refusal.ensures ∙ ap (λ (x : Loaded). verdicts.refusal_of x.verdict) c.load-loaded.ensures) refl c.is_config.ensures c.first_refusal-first.ensures) in
-    let judged : let a = c.args in c.is_valid.result ≡ (valid (model_in a.file.now) && config_valid (model_in a.file.now) (config_from a.config.now)) = (rw (c.is_valid.ensures, c.config_from-c.ensures, c.load-loaded.ensures)) in
-    let done = walk_done c.args.file.now c.args.config.now c.args.tape.now _ first _ judged c.if-first-ne0.false (c.if-not-is_valid.false) _ _ (rw (c.walk-last.ensures, c.config_from-c.ensures, c.load-loaded.ensures)) c.put_config.ensures in
+    let a = c.args in
+    let ok = c.in-Ok.ensures.ok in
+    let r = (goal.at.returns c).After-is_valid in
+    let done = walk_done a.file.now a.config.now a.tape.now _ refl _ (judged r) ok.0 c.if-not-is_valid.false _ _ (rw (c.walk.ensures, ok.1, ok.2)) c.put_config.ensures in
     record { result = done.0; config = done.1 }

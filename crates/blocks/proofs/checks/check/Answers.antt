@@ -1,17 +1,12 @@
-use Rattle.blocks.proofs.FoldLaws.{fold_again, fold_all}
-use Rattle.std.proofs.Common.{refl, ◌∙◌, rules}
+use Rattle.std.proofs.Common.{rules, tests, sym, ◌∙◌}
+use Rattle.std.proofs.lemmas.Iterator.{YieldsList-from_slice}
+use Rattle.std.proofs.lemmas.Iterator.Consumers.{fold_from_yields_List}
 use Rattle.blocks.specs.Checks.{step_of, check_of}
+use Rattle.blocks.proofs.FoldLaws.{fold_is}
 use Rattle.blocks.proofs.checks.check.Goals as goal
-
-pub loop-i-init : goal.loop-i-init
-unfolding check_of
-loop-i-init c = (search rules, refl)
-
-pub loop-i-preserved : goal.loop-i-preserved
-unfolding check_of
-loop-i-preserved c =
-    (search rules, c.check_step-c.ensures ∙ fold_again step_of 1 _ _ 0 _ c.loop-i-test.true c.loop-i.invariant.1)
 
 pub returns : goal.returns
 unfolding check_of
-returns c = fold_all step_of 1 _ _ _ c.loop-i-test.false c.loop-i.invariant.1
+returns c =
+    fold_from_yields_List _ step_of 1 c.fold.result c.fold.ensures.ran (YieldsList-from_slice c.args.bytes.now cc) (λ a x b q k. search (rules, tests))
+    ∙ sym (fold_is step_of 1 c.args.bytes.now)

@@ -6,5 +6,5 @@ use Rattle.blocks.proofs.parts.block.Goals as goal
 pub returns-then-b-file : goal.returns-then-b-file
 returns-then-b-file c = rw add-sub_cancel_left (sym (block_here _ _ c.if-b-file.true))
 
-pub returns : goal.returns
-returns c = sym (block_gone _ _ c.if-b-file.false)
+pub returns-else-b-file : goal.returns-else-b-file
+returns-else-b-file c = sym (block_gone _ _ c.if-b-file.false)

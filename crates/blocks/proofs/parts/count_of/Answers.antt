@@ -4,15 +4,13 @@ use Rattle.blocks.specs.Blocks.{count_of}
 use Rattle.blocks.proofs.parts.count_of.Goals as goal
 
 pub loop-b-init : goal.loop-b-init
-loop-b-init c = (search rules, search rules, sym (sum_start _))
+loop-b-init c = (search rules, sym (sum_start _))
 
 pub loop-b-preserved : goal.loop-b-preserved
 loop-b-preserved c =
     let inv = c.loop-b.invariant in
-    (search rules, search rules, sum_turn _ _ _ _ inv.2 c.used_of.ensures)
+    (search rules, sum_turn _ _ _ _ inv.1 c.used_of.ensures)
 
 pub returns : goal.returns
 unfolding count_of
-returns c =
-    let inv = c.loop-b.invariant in
-    sum_end _ _ _ _ inv.0 c.loop-b-test.false inv.2
+returns c = sum_end _ _ _ _ c.loop-b.auto.b-end c.loop-b-test.false c.loop-b.invariant.1

@@ -1,19 +1,18 @@
-use Rattle.std.proofs.Common.{sym, rules}
-use Rattle.sets.specs.Below.{count_below}
-use Rattle.sets.proofs.Below.{sum_start, sum_turn, sum_end}
-use Rattle.blocks.specs.Blocks.{first_block}
+use Rattle.std.proofs.Common.{ℕ, Bool, rules, tests, sym, ◌∙◌, arith, ltb}
+use Rattle.std.specs.List.{range_with_len}
+use Rattle.std.proofs.lemmas.Iterator.{YieldsList-from_range}
+use Rattle.std.proofs.lemmas.Iterator.Consumers.{YieldsList-from_filter, count_from_yields_List}
+use Rattle.std.proofs.lemmas.List.Sums.{length-filter}
+use Rattle.sets.proofs.Chains.{count_below_range}
+use Rattle.blocks.specs.Blocks.{kind_of, blocks, first_block}
 use Rattle.blocks.proofs.parts.first_block.Goals as goal
 
-pub loop-b-init : goal.loop-b-init
-loop-b-init c = (search rules, search rules, sym (sum_start _))
-
-pub loop-b-preserved : goal.loop-b-preserved
-loop-b-preserved c =
-    let inv = c.loop-b.invariant in
-    (search rules, search rules, sum_turn _ _ _ _ inv.2 c.is_earlier.ensures)
-
 pub returns : goal.returns
-unfolding first_block count_below
+unfolding first_block
 returns c =
-    let inv = c.loop-b.invariant in
-    sum_end _ _ _ _ inv.0 c.loop-b-test.false inv.2
+    let n : ℕ = blocks c.args.file.now in
+    let earlier : ℕ → Bool = λ b. ltb (kind_of c.args.file.now b) c.args.k in
+    count_from_yields_List _ _ c.count.ensures.ran
+    (YieldsList-from_filter _ earlier (YieldsList-from_range 0 n n c.filter.ensures.source (omega arith)) c.filter.ensures.closure (λ x b q k. search (rules, tests)))
+    ∙ length-filter earlier (range_with_len 0 n)
+    ∙ sym (count_below_range earlier n)

@@ -7,6 +7,6 @@ pub returns-then-first-file : goal.returns-then-first-file
 unfolding record_from
 returns-then-first-file c = c.record.ensures
 
-pub returns : goal.returns
+pub returns-else-first-file : goal.returns-else-first-file
 unfolding record_from
-returns c = sym (record_gone c.args.file.now _ _ (omega arith))
+returns-else-first-file c = sym (record_gone c.args.file.now _ _ (omega arith))

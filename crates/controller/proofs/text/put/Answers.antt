@@ -1,28 +1,18 @@
-use mathlib.Core.Path.{sym}
-use Rattle.std.proofs.Common.{rules}
-use Rattle.controller.proofs.TextLaws.{Spelled, spelled, pasted_none, put_digit, put_place, put_last}
+use Rattle.std.proofs.Common.{rules, arith}
+use Rattle.controller.proofs.TextLaws.{Spelled, spelled, put_place, put_text}
 use Rattle.controller.proofs.text.put.Goals as goal
+use Rattle.controller.proofs.text.put.Goals.{After-decimal-k}
 
-pub loop-i-init : goal.loop-i-init
-loop-i-init c = record { few = search rules; text = sym (pasted_none _ _) }
-
-pub loop-i-preserved : goal.loop-i-preserved
-loop-i-preserved c =
-    let a = c.args in
-    let k = c.decimal-k in
-    let h : Spelled a.n k.result k.new.out = spelled _ _ _ (search rules) (search rules) k.ensures.len k.ensures.digits in
-    put_digit a.out.now a.p a.n _ _ h c.requires c.loop-i.i c.loop-i.out c.loop-i.invariant c.loop-i-test.true
+-- the number is spelled out
+digits : (r : After-decimal-k) → Spelled r.args.n r.decimal-k.result r.decimal-k.new.out
+digits r = spelled _ _ _ (search rules) (search rules) r.decimal-k.ensures.len r.decimal-k.ensures.digits
 
 pub returns-clause-place : goal.returns-clause-place
 returns-clause-place c =
-    let a = c.args in
-    let k = c.decimal-k in
-    let h : Spelled a.n k.result k.new.out = spelled _ _ _ (search rules) (search rules) k.ensures.len k.ensures.digits in
-    put_place a.out.now a.p a.n _ _ h c.requires c.loop-i.i c.loop-i.out c.loop-i.invariant c.loop-i-test.false a.after
+    let h = digits (goal.at.returns-clause-place c).After-decimal-k in
+    put_place c.args.out.now c.args.p c.args.n _ _ h c.requires c.args.after
 
 pub returns-clause-text : goal.returns-clause-text
 returns-clause-text c =
-    let a = c.args in
-    let k = c.decimal-k in
-    let h : Spelled a.n k.result k.new.out = spelled _ _ _ (search rules) (search rules) k.ensures.len k.ensures.digits in
-    put_last a.out.now a.p a.n _ _ h c.requires c.loop-i.i c.loop-i.out c.loop-i.invariant c.loop-i-test.false a.after
+    let h = digits (goal.at.returns-clause-text c).After-decimal-k in
+    put_text c.args.out.now c.args.p c.args.n _ _ h c.requires c.args.after _ _ (omega arith) c.copy_from_slice.ensures.after

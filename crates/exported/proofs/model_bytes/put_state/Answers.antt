@@ -1,32 +1,21 @@
 use mathlib.Core.Path.{refl}
 use mathlib.Core.List.{[], ◌∷◌}
+use Prim.Native.Nat.{◌+◌}
 use native.Mathlib.Omega.{arith}
-use borrow.Author.Rules.{rules}
-use lib.ListN.{length-set}
-use Rattle.exported.specs.Bytes.{state_bytes}
-use Rattle.sets.proofs.Stores.{chained, chained_from, chained_stored, stored_more, each_start, each_turn, each_end}
+use lib.ListN.{length}
+use Rattle.blocks.specs.Made.{two_bytes}
+use Rattle.model.specs.Valid.{exit_at}
+use Rattle.exported.specs.Bytes.{exit_bytes, state_bytes}
+use Rattle.sets.proofs.Stores.{stored_more, each_end}
 use Rattle.exported.proofs.model_bytes.put_state.Goals as goal
-
-pub loop-x-init : goal.loop-x-init
-loop-x-init c = (search rules, search rules, each_start _ 3 (λ k. refl) _ _)
-
-pub bounds-room-q : goal.bounds-room-q
-bounds-room-q c = omega (arith, c.loop-x.invariant.1, c.loop-x-test.true)
-
-pub bounds-room-q-in-loop-x : goal.bounds-room-q-in-loop-x
-bounds-room-q-in-loop-x c = simp length-set (omega (arith, c.loop-x.invariant.1, c.loop-x-test.true))
-
-pub bounds-room-q-in-loop-x-2 : goal.bounds-room-q-in-loop-x-2
-bounds-room-q-in-loop-x-2 c = simp length-set (omega (arith, c.loop-x.invariant.1, c.loop-x-test.true))
-
-pub loop-x-preserved : goal.loop-x-preserved
-unfolding chained chained_from
-loop-x-preserved c =
-    let inv = c.loop-x.invariant in
-    (search rules, simp length-set inv.1, each_turn _ 3 (λ k. refl) _ _ _ _ _ _ refl inv.2 (chained_stored _ _ (_ ∷ _ ∷ _ ∷ [])))
 
 pub returns : goal.returns
 unfolding state_bytes
 returns c =
-    let inv = c.loop-x.invariant in
-    stored_more _ _ _ _ _ _ _ c.put_head.ensures (each_end _ _ _ _ _ 8 inv.0 c.loop-x-test.false inv.2) refl
+    let a = c.args in
+    let st = a.st.now in
+    let exits = each_end (λ x. exit_bytes (exit_at st x)) c.put-2.new.room c.put_all.new.room (a.p + 10) (length st.exit) 8 (omega arith) (omega arith) c.put_all.ensures in
+    let receivers = stored_more _ _ _ (two_bytes st.receivers) _ (a.p + 8) (a.p + 10) c.put-2.ensures exits (omega arith) in
+    let targets = stored_more _ _ _ (st.timeout ∷ st.cancel ∷ []) _ (a.p + 6) (a.p + 8) c.store-2.ensures receivers (omega arith) in
+    let after = stored_more _ _ _ (two_bytes st.after) _ (a.p + 4) (a.p + 6) c.put.ensures targets (omega arith) in
+    stored_more _ _ _ (st.kind ∷ st.exits ∷ st.sender ∷ st.typ ∷ []) _ a.p (a.p + 4) c.store.ensures after refl

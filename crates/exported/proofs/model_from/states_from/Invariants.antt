@@ -1,12 +1,8 @@
 use mathlib.Core.Path.{◌≡◌}
-use Prim.Native.Nat.{◌-◌, ◌≤◌}
 use Rattle.sets.specs.Below.{sum_below, filled}
 use Rattle.exported.specs.Bytes.{exits_in, head_from, stored_from}
 use Rattle.exported.proofs.model_from.states_from.Given as goal
 
 abbrev pub invariant-loop-p : goal.invariant-loop-p
 invariant-loop-p l =
-    (l.p ≤ 512) × (l.place ≡ sum_below (exits_in l.b) l.p) × (l.states ≡ filled (stored_from l.b) (head_from l.b 0) 512 l.p)
-
-abbrev pub decreases-loop-p : goal.decreases-loop-p
-decreases-loop-p l = 512 - l.p
+    (l.place ≡ sum_below (exits_in l.b) l.p) × (l.states ≡ filled (stored_from l.b) (head_from l.b 0) 512 l.p)

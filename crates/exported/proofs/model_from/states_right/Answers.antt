@@ -1,22 +1,15 @@
-use mathlib.Core.Path.{sym, ap, ◌∙◌}
+use mathlib.Core.Path.{refl, sym, ◌∙◌}
+use native.Mathlib.Omega.{arith}
 use borrow.Author.Rules.{rules}
-use Rattle.sets.proofs.Below.{all_start, all_more, all_stop, all_end}
-use Rattle.exported.specs.Bytes.{is_state}
+use borrow.Author.Tests.{tests}
+use Rattle.std.proofs.lemmas.Iterator.{YieldsList-from_range}
+use Rattle.std.proofs.lemmas.Iterator.Search.{all_from_yields_List}
+use Rattle.sets.proofs.Chains.{all_below_range}
+use Rattle.exported.specs.Bytes.{state_in, is_state}
 use Rattle.exported.proofs.model_from.states_right.Goals as goal
-
-pub loop-p-init : goal.loop-p-init
-loop-p-init c = (search rules, all_start _)
-
-pub returns-then-not-is_state : goal.returns-then-not-is_state
-returns-then-not-is_state c =
-    sym (all_stop _ _ 512 c.loop-p-test.true (sym (ap is_state c.rest.ensures) ∙ sym c.is_state.ensures ∙ c.if-not-is_state.true))
-
-pub loop-p-preserved : goal.loop-p-preserved
-loop-p-preserved c =
-    let inv = c.loop-p.invariant in
-    (search rules, all_more _ _ inv.1 (sym (ap is_state c.rest.ensures) ∙ sym c.is_state.ensures ∙ c.if-not-is_state.false))
 
 pub returns : goal.returns
 returns c =
-    let inv = c.loop-p.invariant in
-    sym (all_end _ _ 512 inv.0 c.loop-p-test.false inv.1)
+    let b = c.args.b.now in
+    all_from_yields_List (λ p. is_state (state_in b p)) _ _ c.all.result c.all.ensures.ran (YieldsList-from_range 0 512 512 refl (omega arith)) (λ x r q k. search (rules, tests))
+    ∙ sym (all_below_range _ _)

@@ -1,20 +1,14 @@
-use mathlib.Core.Path.{◌∙◌}
+use Rattle.std.proofs.Common.{◌≡◌, ℕ, ◌+◌, cond, ltb, refl, rules}
 use Rattle.sets.specs.Groups.{in_places}
-use Rattle.sets.proofs.Below.{fill_start, fill_turn, fill_end}
+use Rattle.sets.proofs.Made.{made_table}
+use Rattle.blocks.specs.Blocks.{record_no}
+use Rattle.model.specs.Records.{row_of, blank_row}
 use Rattle.model.specs.Decoded.{rows_from}
-use borrow.Author.Rules.{rules}
 use Rattle.model.proofs.decoded.rows_from.Goals as goal
-
-pub loop-k-init : goal.loop-k-init
-loop-k-init c = (search rules, c.blank_rows-row.ensures ∙ fill_start _ _ _)
-
-pub loop-k-preserved : goal.loop-k-preserved
-loop-k-preserved c =
-    let inv = c.loop-k.invariant in
-    (search rules, rw inv.1 (fill_turn _ _ _ _ _ c.loop-k-test.true c.row_from.ensures))
 
 pub returns : goal.returns
 unfolding rows_from in_places
 returns c =
-    let inv = c.loop-k.invariant in
-    inv.1 ∙ fill_end _ _ _ _ inv.0 c.loop-k-test.false
+    let a = c.args in
+    let row = λ (k : ℕ). cond (ltb k a.rows) (row_of (record_no a.limits.now.file.now 4 (a.place + k))) blank_row in
+    made_table _ (λ p. (p.0.now ≡ a.limits.now) × (p.1.now ≡ a.place) × (p.2.now ≡ a.rows)) row (λ p i y q w e. (let m = e.met in (search rules, (search rules, search rules, search rules)))) _ _ _ (refl, refl, refl) c.from_fn.ensures.items

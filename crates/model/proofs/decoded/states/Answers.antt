@@ -1,44 +1,34 @@
-use mathlib.Core.Path.{◌≡◌, sym, ap, ◌∙◌}
-use mathlib.Core.List.{[]}
-use Prim.Native.Nat.{◌/◌, ◌≤◌}
-use native.Mathlib.Omega.{arith}
-use lib.ListN.{get_or, replicate}
+use Rattle.std.proofs.Common.{◌≡◌, ◌+◌, ◌*◌, sym, ap, ◌∙◌, arith}
 use Rattle.sets.proofs.Below.{sum_start, sum_turn, fill_start, fill_turn, fill_end}
-use Rattle.model.specs.Decoded.{states_in, stored_in}
 use Rattle.model.specs.declared.Stored.{Stored}
-use Rattle.model.proofs.DecodedLaws.{starts_few, places_few, next_turn, states_at, exits_are, state_is}
-use borrow.Author.Rules.{rules}
+use Rattle.model.proofs.DecodedLaws.{starts_few, places_few, states_at, exits_are, state_is}
 use Rattle.model.proofs.decoded.states.Goals as goal
 
-pub loop-p-init : goal.loop-p-init
-loop-p-init c =
-    (search rules, sym (sum_start _), sym (sum_start _), ap (replicate 512) c.blank_stored-none.ensures ∙ fill_start _ _ _)
+pub loop-s-init : goal.loop-s-init
+loop-s-init c = (sym (sum_start _), sym (sum_start _), rw c.blank_stored-states.ensures (fill_start _ _ _))
 
 pub overflow_add-start : goal.overflow_add-start
-overflow_add-start c =
-    let start-few : c.loop-p.start ≤ 4080 = (omega (arith, starts_few c.args.file.now c.shared_slice_known-1.given (c.loop-p.p / 32))) in
-    omega (arith, start-few)
+overflow_add-start c = omega (arith, c.loop-s.invariant.0, starts_few c.args.file.now c.type_inv.file c.loop-s.s)
 
 pub overflow_add-place : goal.overflow_add-place
-overflow_add-place c =
-    let place-few : c.loop-p.place ≤ 130560 = (omega (arith, places_few c.args.file.now c.shared_slice_known-1.given c.loop-p.p)) in
-    omega (arith, place-few)
+overflow_add-place c = omega (arith, c.loop-t.invariant.0, places_few c.args.file.now c.type_inv.file (c.loop-s.s * 32 + c.loop-t.t))
 
-pub next_start-start-requires : goal.next_start-start-requires
-next_start-start-requires c =
-    let start-few : c.loop-p.start ≤ 4080 = (omega (arith, starts_few c.args.file.now c.shared_slice_known-1.given (c.loop-p.p / 32))) in
-    omega (arith, start-few)
+pub loop-t-preserved : goal.loop-t-preserved
+loop-t-preserved c =
+    let next : c.loop-s.s * 32 + (c.loop-t.t + 1) ≡ c.loop-s.s * 32 + c.loop-t.t + 1 = omega arith in
+    let inv = c.loop-t.invariant in
+    let own = states_at _ _ _ _ c.requires c.loop-s-test.true in
+    let now = rw c.of-records.ensures at c.state_or_none-st.ensures in
+    let is = now ∙ state_is _ _ _ _ _ c.loop-t-test.true own c.loop-s.invariant.0 _ inv.0 in
+    (rw next (sum_turn _ _ _ _ inv.0 (ap (λ (s : Stored). s.exits) is ∙ exits_are _ _)), rw (next, inv.1) (fill_turn _ _ _ _ _ (omega arith) is))
 
-pub loop-p-preserved : goal.loop-p-preserved
-loop-p-preserved c =
-    let own_is : (get_or c.args.subjects (c.loop-p.p / 32) record { states = 0; initial = 0; rows = 0; row = [] }).states ≡ states_in c.args.file.now (c.loop-p.p / 32) = (states_at _ _ _ _ c.requires (omega arith)) in
-    let state-now : c.state_or_none-st.result ≡ stored_in c.args.file.now c.loop-p.p = (c.state_or_none-st.ensures
-    ∙ state_is _ _ _ _ _ own_is c.loop-p.invariant.1 c.first_block-first.ensures _ c.loop-p.invariant.2) in
-    let inv = c.loop-p.invariant in
-    let now-is = state-now in
-    (search rules, next_turn _ _ _ _ _ inv.1 own_is c.next_start-start.ensures, sum_turn _ _ _ _ inv.2 (ap (λ (s : Stored). s.exits) now-is ∙ exits_are _ _), rw inv.3 (fill_turn _ _ _ _ _ c.loop-p-test.true now-is))
+pub overflow_add-start-in-loop-s : goal.overflow_add-start-in-loop-s
+overflow_add-start-in-loop-s c = omega (arith, c.loop-s.invariant.0, starts_few c.args.file.now c.type_inv.file c.loop-s.s)
+
+pub loop-s-preserved : goal.loop-s-preserved
+loop-s-preserved c =
+    let next : (c.loop-s.s + 1) * 32 ≡ c.loop-s.s * 32 + c.loop-t.t = omega arith in
+    (sum_turn _ _ _ _ c.loop-s.invariant.0 (states_at _ _ _ _ c.requires c.loop-s-test.true), rw next c.loop-t.invariant.0, rw next c.loop-t.invariant.1)
 
 pub returns : goal.returns
-returns c =
-    let inv = c.loop-p.invariant in
-    inv.3 ∙ fill_end _ _ _ _ inv.0 c.loop-p-test.false
+returns c = c.loop-s.invariant.2 ∙ fill_end _ _ _ _ (omega arith) (omega arith)

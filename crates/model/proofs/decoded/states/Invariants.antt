@@ -1,13 +1,13 @@
-use mathlib.Core.Path.{◌≡◌}
-use Prim.Native.Nat.{◌/◌, ◌≤◌, ◌-◌}
+use Rattle.std.proofs.Common.{◌≡◌, ◌+◌, ◌*◌}
 use Rattle.sets.specs.Below.{sum_below, filled}
 use Rattle.model.specs.Records.{blank_stored}
 use Rattle.model.specs.Decoded.{states_in, exits_in, stored_in}
 use Rattle.model.proofs.decoded.states.Given as goal
 
-abbrev pub invariant-loop-p : goal.invariant-loop-p
-invariant-loop-p l =
-    (l.p ≤ 512) × (l.start ≡ sum_below (states_in l.file) (l.p / 32)) × (l.place ≡ sum_below (exits_in l.file) l.p) × (l.states ≡ filled (stored_in l.file) blank_stored 512 l.p)
+abbrev pub invariant-loop-t : goal.invariant-loop-t
+invariant-loop-t l =
+    (l.place ≡ sum_below (exits_in l.file) (l.s * 32 + l.t)) × (l.states ≡ filled (stored_in l.file) blank_stored 512 (l.s * 32 + l.t))
 
-abbrev pub decreases-loop-p : goal.decreases-loop-p
-decreases-loop-p l = 512 - l.p
+abbrev pub invariant-loop-s : goal.invariant-loop-s
+invariant-loop-s l =
+    (l.start ≡ sum_below (states_in l.file) l.s) × (l.place ≡ sum_below (exits_in l.file) (l.s * 32)) × (l.states ≡ filled (stored_in l.file) blank_stored 512 (l.s * 32))

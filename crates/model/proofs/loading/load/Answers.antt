@@ -8,35 +8,35 @@ returns-then-not-length_right c =
     let length = sym c.length_right.ensures ∙ c.if-not-length_right.true in
     rw length c.not_loaded.ensures
 
-pub returns-in-At : goal.returns-in-At
+pub returns-in-Some : goal.returns-in-Some
 unfolding loaded
-returns-in-At c =
+returns-in-Some c =
     let length = sym c.length_right.ensures ∙ c.if-not-length_right.false in
-    let found = sym c.first_bad_check-check.ensures ∙ c.in-At.is in
-    rw (length, found) c.not_loaded-in-At.ensures
+    let found = sym c.first_bad_check.ensures ∙ c.in-Some.is in
+    rw (length, found) c.not_loaded-in-Some.ensures
 
-pub returns-in-At-block : goal.returns-in-At-block
+pub returns-in-Some-first_bad_block : goal.returns-in-Some-first_bad_block
 unfolding loaded
-returns-in-At-block c =
+returns-in-Some-first_bad_block c =
     let length = sym c.length_right.ensures ∙ c.if-not-length_right.false in
-    let checks = sym c.first_bad_check-check.ensures ∙ c.in_default.is in
-    let found = sym c.first_bad_block-block.ensures ∙ c.in-At-block.is in
-    rw (length, checks, found) c.not_loaded-in-At-block.ensures
+    let checks = sym c.first_bad_check.ensures ∙ c.in_default.is in
+    let found = sym c.first_bad_block.ensures ∙ c.in-Some-first_bad_block.is in
+    rw (length, checks, found) c.not_loaded-in-Some-first_bad_block.ensures
 
-pub returns-in-At-record : goal.returns-in-At-record
+pub returns-in-Some-first_bad_record : goal.returns-in-Some-first_bad_record
 unfolding loaded
-returns-in-At-record c =
+returns-in-Some-first_bad_record c =
     let length = sym c.length_right.ensures ∙ c.if-not-length_right.false in
-    let checks = sym c.first_bad_check-check.ensures ∙ c.in_default.is in
-    let blocks = sym c.first_bad_block-block.ensures ∙ c.in_default-block.is in
-    let found = sym c.first_bad_record-record.ensures ∙ c.in-At-record.is in
-    rw (length, checks, blocks, found) c.not_loaded-in-At-record.ensures
+    let checks = sym c.first_bad_check.ensures ∙ c.in_default.is in
+    let blocks = sym c.first_bad_block.ensures ∙ c.in_default-first_bad_block.is in
+    let found = sym c.first_bad_record.ensures ∙ c.in-Some-first_bad_record.is in
+    rw (length, checks, blocks, found) c.not_loaded-in-Some-first_bad_record.ensures
 
 pub returns : goal.returns
 unfolding loaded
 returns c =
     let length = sym c.length_right.ensures ∙ c.if-not-length_right.false in
-    let checks = sym c.first_bad_check-check.ensures ∙ c.in_default.is in
-    let blocks = sym c.first_bad_block-block.ensures ∙ c.in_default-block.is in
-    let records = sym c.first_bad_record-record.ensures ∙ c.in_default-record.is in
+    let checks = sym c.first_bad_check.ensures ∙ c.in_default.is in
+    let blocks = sym c.first_bad_block.ensures ∙ c.in_default-first_bad_block.is in
+    let records = sym c.first_bad_record.ensures ∙ c.in_default-first_bad_record.is in
     rw (length, checks, blocks, records) c.across_or.ensures

@@ -1,21 +1,9 @@
-use mathlib.Core.Path.{sym, ◌∙◌}
-use borrow.Author.Rules.{rules}
-use Rattle.sets.proofs.Below.{first_start, first_more, first_found, first_end}
+use Rattle.std.proofs.Common.{◌/◌, length, rules, tests}
+use Rattle.sets.proofs.Ranges.{first_over}
+use Rattle.model.specs.Stages.{block_right}
 use Rattle.model.proofs.stages.first_bad_block.Goals as goal
-
-pub loop-b-init : goal.loop-b-init
-loop-b-init c = (search rules, first_start _)
-
-pub returns-then-not-block_right : goal.returns-then-not-block_right
-returns-then-not-block_right c =
-    sym (first_found _ _ _ c.loop-b.invariant.1 (sym c.block_right.ensures ∙ c.if-not-block_right.true) c.loop-b-test.true)
-
-pub loop-b-preserved : goal.loop-b-preserved
-loop-b-preserved c =
-    let inv = c.loop-b.invariant in
-    (search rules, first_more _ _ inv.1 (sym c.block_right.ensures ∙ c.if-not-block_right.false))
 
 pub returns : goal.returns
 returns c =
-    let inv = c.loop-b.invariant in
-    sym (first_end _ _ _ inv.0 c.loop-b-test.false inv.1)
+    let file = c.args.file.now in
+    first_over (block_right file) (length file / 512) _ _ _ (search rules) _ c.find.ensures.ran (λ x b q k. search (rules, tests))

@@ -5,7 +5,6 @@ use Prim.Native.Nat.{ℕ, ◌-◌, min}
 use native.Mathlib.Omega.{arith}
 use lib.Dec.{ltb, leb}
 use lib.ListN.{replicate}
-use borrow.Author.Rules.{rules}
 use borrow.Author.Tests.{lt-ltb, le-ltb, leb-true, leb-false}
 use Rattle.sets.specs.Below.{filled}
 use Rattle.sets.specs.Groups.{in_places}
@@ -29,25 +28,15 @@ filled-places f count x e =
     go false h = fill_rest there blank_exit 8 x (omega arith) (λ k l. rw (le-ltb k count (omega (arith, leb-false 8 count h))))
 
 pub loop-x-init : goal.loop-x-init
-loop-x-init c = (search rules, c.blank_exits-exit.ensures ∙ fill_start _ _ _)
-
-pub bounds-exit-x : goal.bounds-exit-x
-bounds-exit-x c = let few = c.exits_of-exits.ensures in omega (arith, few, c.loop-x-test.true)
-
-pub offset_bounds-exit-x : goal.offset_bounds-exit-x
-offset_bounds-exit-x c = let few = c.exits_of-exits.ensures in omega (arith, few, c.loop-x-test.true)
+loop-x-init c = c.blank_exits-exit.ensures ∙ fill_start _ _ _
 
 pub loop-x-preserved : goal.loop-x-preserved
 loop-x-preserved c =
-    let few = c.exits_of-exits.ensures in
-    (search rules, rw c.loop-x.invariant.1 (fill_turn _ _ _ _ _ (omega (arith, few, c.loop-x-test.true)) c.exit_no.ensures))
+    let few = c.exits_of-own.ensures in
+    rw c.loop-x.invariant (fill_turn _ _ _ _ _ (omega (arith, few, c.loop-x-test.true)) c.exit_no.ensures)
 
 pub returns : goal.returns
 unfolding exits_from
 returns c =
-    let inv = c.loop-x.invariant in
-    let few = c.exits_of-exits.ensures in
-    inv.1 ∙ filled-places _ _ _ (omega (arith, few, inv.0, c.loop-x-test.false))
-
-pub overflow_add-first : goal.overflow_add-first
-overflow_add-first c = omega (arith, c.exits_of-exits.ensures, c.loop-x-test.true)
+    let few = c.exits_of-own.ensures in
+    c.loop-x.invariant ∙ filled-places _ _ _ (omega (arith, few, c.loop-x.auto.x-end, c.loop-x-test.false))

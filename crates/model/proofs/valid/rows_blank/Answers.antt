@@ -8,7 +8,6 @@ use Rattle.sets.specs.Below.{all_below}
 use Rattle.model.specs.Valid.{row_at, is_blank_row}
 use Rattle.model.specs.declared.Subject.{Subject}
 use Rattle.model.proofs.BlankLaws.{or_none}
-use borrow.Author.Rules.{rules}
 use Rattle.model.proofs.valid.rows_blank.Goals as goal
 
 -- one row more
@@ -19,11 +18,10 @@ turn sub seen bits k h e = or_none seen bits ∙ rw (add-one, ← h, ← e)
 
 pub loop-k-init : goal.loop-k-init
 unfolding all_below
-loop-k-init c = (search rules, refl)
+loop-k-init c = refl
 
 pub loop-k-preserved : goal.loop-k-preserved
-loop-k-preserved c =
-    (search rules, turn c.args.sub c.loop-k.seen c.row_bits-seen.result c.loop-k.k c.loop-k.invariant.1 c.row_bits-seen.ensures)
+loop-k-preserved c = turn c.args.sub c.loop-k.seen c.row_bits-seen.result c.loop-k.k c.loop-k.invariant c.row_bits-seen.ensures
 
 pub returns : goal.returns
-returns c = let at = c.loop-k in at.invariant.1 ∙ ap (all_below _) (le_antisymm at.invariant.0 c.loop-k-test.false)
+returns c = let at = c.loop-k in at.invariant ∙ ap (all_below _) (le_antisymm at.auto.k-end c.loop-k-test.false)

@@ -3,7 +3,6 @@ use mathlib.Core.Path.{◌≡◌, sym, ◌∙◌}
 use mathlib.Core.Bool.{true, ◌&&◌}
 use native.Mathlib.Omega.{arith}
 use borrow.Author.Tests.{eqb-true, le-ltb}
-use borrow.Author.Rules.{rules}
 use lib.Dec.{eqb}
 use Rattle.sets.specs.Below.{all_below}
 use Rattle.sets.proofs.Tests.{and_true, and_both}
@@ -31,7 +30,7 @@ returns-then-n-s c =
     rw h (c.rows_blank.ensures ∙ blank-rows _ _ _ _ c.if-n-s.true h)
 
 pub loop-k-init : goal.loop-k-init
-loop-k-init c = (search rules, all_start _)
+loop-k-init c = all_start _
 
 pub returns-then-not-row_valid : goal.returns-then-not-row_valid
 unfolding subject_valid
@@ -40,9 +39,9 @@ returns-then-not-row_valid c =
     (sym (all_stop _ _ _ c.loop-k-test.true (sym c.row_valid.ensures ∙ c.if-not-row_valid.true)))
 
 pub loop-k-preserved : goal.loop-k-preserved
-loop-k-preserved c = (search rules, all_more _ _ c.loop-k.invariant.1 (sym c.row_valid.ensures ∙ c.if-not-row_valid.false))
+loop-k-preserved c = all_more _ _ c.loop-k.invariant (sym c.row_valid.ensures ∙ c.if-not-row_valid.false)
 
 pub returns : goal.returns
 unfolding subject_valid
 returns c =
-    sym (and_true (sym c.subject_own.ensures ∙ c.if-not-subject_own.false) (all_end _ _ _ c.loop-k.invariant.0 c.loop-k-test.false c.loop-k.invariant.1))
+    sym (and_true (sym c.subject_own.ensures ∙ c.if-not-subject_own.false) (all_end _ _ _ c.loop-k.auto.k-end c.loop-k-test.false c.loop-k.invariant))

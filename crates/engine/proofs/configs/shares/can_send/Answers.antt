@@ -1,53 +1,49 @@
-use Prim.Native.Nat.{◌≤◌, ◌<◌}
-use mathlib.Core.Path.{sym, ◌∙◌}
+use Rattle.std.proofs.Common.{rules, ◌≡◌, sym, ap, ◌∙◌, length, ◌&&◌, ◌*◌, ◌<◌, ◌≤◌, ◌+◌, ◌-◌, ℕ}
+use borrow.Author.Tests.{tests}
 use native.Mathlib.Omega.{arith}
-use borrow.Author.Rules.{rules}
-use Rattle.sets.proofs.Below.{some_start, some_more, some_found, some_end}
-use Rattle.model.specs.Records.{with_exits}
+use lib.ListN.{take, drop}
+use Rattle.std.proofs.lemmas.Iterator.{YieldsList-from_slice}
+use Rattle.std.proofs.lemmas.Iterator.Search.{any_from_yields_List}
+use Rattle.sets.proofs.Arrays.{length_mapped}
+use Rattle.sets.specs.Masks.{bit}
+use Rattle.model.specs.Records.{with_exits, blank_stored}
 use Rattle.model.specs.Valid.{subject_at}
+use Rattle.model.specs.declared.Stored.{Stored}
+use Rattle.engine.specs.configs.Subjects.{is_send}
 use Rattle.engine.specs.configs.Shares.{can_send}
 use Rattle.engine.proofs.configs.ModelFacts.{n_high}
 use Rattle.engine.proofs.configs.IndexFacts.{few_states}
-use Rattle.engine.proofs.configs.shares.can_send.Invariants.{sends}
+use Rattle.engine.proofs.configs.ShareLaws.{some_within}
 use Rattle.engine.proofs.configs.shares.can_send.Goals as goal
+use Rattle.engine.proofs.configs.shares.can_send.Goals.{Start}
 
-pub offset_bounds-m-s : goal.offset_bounds-m-s
-offset_bounds-m-s c =
-    let there : c.args.s < 16 = (omega (arith, c.requires.s_lt_n, n_high c.args.m c.requires.m_value)) in
-    omega (arith, there)
+-- a subject of the model has its place in the arrays
+there : (r : Start) → r.args.s < 16
+there r = omega (arith, r.requires.s_lt_n, n_high r.args.m r.requires.m_value)
+
+few : (r : Start) → (subject_at r.args.m r.args.s).states ≤ 32
+few r = few_states r.args.m r.args.s r.requires.m_value (there r)
+
+all : (r : Start) → length r.args.m.states ≡ 512
+all r = search length_mapped
 
 pub bounds-m-s : goal.bounds-m-s
-bounds-m-s c =
-    let there : c.args.s < 16 = (omega (arith, c.requires.s_lt_n, n_high c.args.m c.requires.m_value)) in
-    omega (arith, there)
+bounds-m-s c = omega (arith, c.requires.s_lt_n, n_high c.args.m c.requires.m_value)
 
-pub overflow_cast-n : goal.overflow_cast-n
-overflow_cast-n c =
-    let there : c.args.s < 16 = (omega (arith, c.requires.s_lt_n, n_high c.args.m c.requires.m_value)) in
-    let few : (subject_at c.args.m c.args.s).states ≤ 32 = (few_states c.args.m c.args.s c.requires.m_value there) in
-    omega (arith, few)
-
-pub loop-t-init : goal.loop-t-init
-loop-t-init c =
-    let there : c.args.s < 16 = (omega (arith, c.requires.s_lt_n, n_high c.args.m c.requires.m_value)) in
-    let few : (subject_at c.args.m c.args.s).states ≤ 32 = (few_states c.args.m c.args.s c.requires.m_value there) in
-    (there, few, search rules, some_start (sends c.args.m c.args.owner c.args.s))
-
-pub returns-then-sends_to : goal.returns-then-sends_to
-unfolding can_send with_exits
-returns-then-sends_to c =
-    let a = c.args in
-    sym (some_found (sends a.m a.owner a.s) _ _ c.loop-t-test.true (sym c.sends_to.ensures ∙ c.if-sends_to.true))
-
-pub loop-t-preserved : goal.loop-t-preserved
-unfolding with_exits
-loop-t-preserved c =
-    let inv = c.loop-t.invariant in
-    let a = c.args in
-    (inv.0, inv.1, search rules, some_more (sends a.m a.owner a.s) _ inv.3 (sym c.sends_to.ensures ∙ c.if-sends_to.false))
+pub slice_bounds-iter-end : goal.slice_bounds-iter-end
+slice_bounds-iter-end c =
+    let r = (goal.at.slice_bounds-iter-end c).Start in
+    omega (arith, there r, all r, few r)
 
 pub returns : goal.returns
-unfolding can_send
+unfolding can_send with_exits
 returns c =
     let a = c.args in
-    sym (some_end (sends a.m a.owner a.s) _ _ c.loop-t.invariant.2 c.loop-t-test.false c.loop-t.invariant.3)
+    let r = (goal.at.returns c).Start in
+    let sends = λ (st : Stored). is_send st.kind && bit st.receivers a.owner in
+    let first = a.s * 32 in
+    let states = (subject_at a.m a.s).states in
+    let k : first + states - first ≡ states = omega arith in
+    let slice : c.iter.result.rest.now ≡ take states (drop first a.m.states) = c.iter.ensures.rest ∙ ap (λ (i : ℕ). take i (drop first a.m.states)) k in
+    any_from_yields_List sends _ _ c.any.result c.any.ensures.ran (YieldsList-from_slice (take states (drop first a.m.states)) slice) (λ x b q k. search (rules, tests))
+    ∙ sym (some_within sends a.m.states first states blank_stored (omega (arith, all r, few r, there r)))

@@ -1,19 +1,9 @@
-use mathlib.Core.Path.{sym, ◌∙◌}
-use borrow.Author.Rules.{rules}
-use Rattle.sets.proofs.Below.{all_start, all_more, all_stop, all_end}
-use Rattle.engine.specs.configs.Shares.{rows_name}
+use Rattle.std.proofs.Common.{rules}
+use borrow.Author.Tests.{tests}
+use Rattle.std.proofs.lemmas.Iterator.{YieldsList-from_slice}
+use Rattle.std.proofs.lemmas.Iterator.Search.{all_from_yields_List}
+use Rattle.engine.specs.configs.Shares.{row_names}
 use Rattle.engine.proofs.configs.shares.rows_name.Goals as goal
 
-pub loop-k-init : goal.loop-k-init
-loop-k-init c = (search rules, all_start _)
-
-pub returns-then-not-row_names : goal.returns-then-not-row_names
-unfolding rows_name
-returns-then-not-row_names c = sym (all_stop _ _ _ c.loop-k-test.true (sym c.row_names.ensures ∙ c.if-not-row_names.true))
-
-pub loop-k-preserved : goal.loop-k-preserved
-loop-k-preserved c = (search rules, all_more _ _ c.loop-k.invariant.1 (sym c.row_names.ensures ∙ c.if-not-row_names.false))
-
 pub returns : goal.returns
-unfolding rows_name
-returns c = sym (all_end _ _ _ c.loop-k.invariant.0 c.loop-k-test.false c.loop-k.invariant.1)
+returns c = all_from_yields_List row_names _ _ c.all.result c.all.ensures.ran (YieldsList-from_slice c.args.rows.now cc) (λ x b q k. search (rules, tests))

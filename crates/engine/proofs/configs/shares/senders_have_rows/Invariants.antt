@@ -1,13 +1,9 @@
-use Prim.Native.Nat.{◌≤◌, ◌-◌}
-use mathlib.Core.Path.{◌≡◌}
-use mathlib.Core.Bool.{true, ◌||◌, not}
+use Rattle.std.proofs.Common.{◌≡◌, not, true, ◌||◌}
+use lib.Dec.{eqb}
+use Rattle.std.specs.List.{list_any}
 use Rattle.sets.specs.Below.{all_below}
-use Rattle.model.specs.Valid.{subject_at}
-use Rattle.engine.specs.configs.Shares.{has_row, can_send}
+use Rattle.engine.specs.configs.Shares.{can_send}
 use Rattle.engine.proofs.configs.shares.senders_have_rows.Given as goal
 
 abbrev pub invariant-loop-s : goal.invariant-loop-s
-invariant-loop-s l = (l.n ≤ 16) × (l.s ≤ l.n) × (all_below (λ k. not (can_send l.m l.owner k) || has_row (subject_at l.m l.owner) k) l.s ≡ true)
-
-abbrev pub decreases-loop-s : goal.decreases-loop-s
-decreases-loop-s l = l.n - l.s
+invariant-loop-s l = all_below (λ k. not (can_send l.m l.owner k) || list_any (λ w. eqb w.sender k) l.rows) l.s ≡ true

@@ -1,21 +1,19 @@
-use mathlib.Core.Path.{◌∙◌, ap, ◌≡◌}
-use borrow.Author.Rules.{rules}
-use lib.ListN.{replicate}
-use Rattle.sets.proofs.Below.{fill_start, fill_turn, fill_end}
-use Rattle.engine.specs.configs.Fresh.{fresh_subject, fresh_config}
+use Rattle.std.proofs.Common.{◌≡◌, ◌%◌, refl, rules, arith, cond, ltb, ap, ◌∙◌, ℕ}
+use Rattle.sets.specs.Masks.{bit}
+use Rattle.sets.proofs.Below.{table_same}
+use Rattle.sets.proofs.Made.{made_table}
+use Rattle.model.specs.Valid.{subject_at}
+use Rattle.engine.specs.configs.Subjects.{nobody}
+use Rattle.engine.specs.configs.Fresh.{starting, fresh_subject, fresh_config}
+use Rattle.engine.specs.declared.Subject.{Subject}
 use Rattle.engine.proofs.configs.starts.fresh_config.Goals as goal
 
-pub loop-s-init : goal.loop-s-init
-loop-s-init c = (search rules, ap (replicate 16) c.nobody-subjects.ensures ∙ fill_start _ _ _)
-
-pub loop-s-preserved : goal.loop-s-preserved
-unfolding fresh_subject
-loop-s-preserved c =
-    let made : c.fresh_subject.result ≡ fresh_subject c.args.m c.loop-s.s = (c.fresh_subject.ensures ∙ rw c.has.ensures) in
-    (search rules, rw c.loop-s.invariant.1 (fill_turn _ _ _ _ _ c.loop-s-test.true made))
-
 pub returns : goal.returns
-unfolding fresh_config
+unfolding fresh_config fresh_subject
 returns c =
-    let full = c.loop-s.invariant.1 ∙ fill_end _ _ _ _ c.loop-s.invariant.0 c.loop-s-test.false in
+    let m = c.args.m in
+    let at_place : ℕ → ℕ → Subject = λ s k. cond (ltb s m.n) (starting (cond (bit m.start k) 1 0) (subject_at m s).initial) nobody in
+    let made =
+    made_table _ (λ p. (p.0.now ≡ m.n) × (p.1.now ≡ m.start) × (p.2.now ≡ m.subjects)) (λ s. at_place s (s % 256)) (λ p i y q w e. (let h = e.met in (search rules, (search rules, search rules, search rules)))) _ _ _ (refl, refl, refl) c.from_fn.ensures.items in
+    let full = made ∙ table_same _ (λ s. at_place s s) 16 (λ s l. ap (at_place s) (omega (arith, l))) in
     λ i. record { subjects = full i }

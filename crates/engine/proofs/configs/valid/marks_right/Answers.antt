@@ -1,19 +1,20 @@
-use mathlib.Core.Path.{sym, ◌∙◌}
-use borrow.Author.Rules.{rules}
-use Rattle.sets.proofs.Below.{all_start, all_more, all_stop, all_end}
+use Rattle.std.proofs.Common.{rules, refl, ◌≡◌, sym, ◌∙◌, length, ℕ, ◌||◌, Bool}
+use borrow.Author.Tests.{tests}
+use lib.Dec.{eqb, ltb}
+use Rattle.std.proofs.lemmas.Iterator.{YieldsList-from_slice}
+use Rattle.std.proofs.lemmas.Iterator.Consumers.{YieldsList-from_enumerate}
+use Rattle.std.proofs.lemmas.Iterator.Search.{all_from_yields_List}
+use Rattle.sets.proofs.Arrays.{length_mapped}
+use Rattle.engine.proofs.pools.PoolLaws.{numbered_list}
 use Rattle.engine.specs.configs.Valid.{marks_right}
 use Rattle.engine.proofs.configs.valid.marks_right.Goals as goal
 
-pub loop-i-init : goal.loop-i-init
-loop-i-init c = (search rules, all_start _)
-
-pub returns-then-not-either : goal.returns-then-not-either
-unfolding marks_right
-returns-then-not-either c = sym (all_stop _ _ _ c.loop-i-test.true (sym c.either.ensures ∙ c.if-not-either.true))
-
-pub loop-i-preserved : goal.loop-i-preserved
-loop-i-preserved c = (search rules, all_more _ _ c.loop-i.invariant.1 (sym c.either.ensures ∙ c.if-not-either.false))
-
 pub returns : goal.returns
 unfolding marks_right
-returns c = sym (all_end _ _ _ c.loop-i.invariant.0 c.loop-i-test.false c.loop-i.invariant.1)
+returns c =
+    let marks = c.args.x.now.closed in
+    let n : length marks ≡ 16 = search length_mapped in
+    let right : ℕ → ℕ → Bool = λ i mark. ltb i c.args.n || eqb mark 0 in
+    all_from_yields_List (λ t. right t.0 t.1) _ _ c.all.result c.all.ensures.ran (YieldsList-from_enumerate (YieldsList-from_slice marks cc) cc) (λ x b q k. search (rules, tests))
+    ∙ sym (numbered_list right marks 0)
+    ∙ rw n refl

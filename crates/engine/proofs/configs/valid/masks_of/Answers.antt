@@ -1,13 +1,8 @@
-use mathlib.Core.Path.{refl, ◌∙◌}
-use borrow.Author.Rules.{rules}
-use Rattle.sets.proofs.Below.{fill_start, fill_turn, fill_end}
+use Rattle.std.proofs.Common.{◌≡◌, refl, rules}
+use Rattle.sets.proofs.Made.{made_table}
+use Rattle.engine.specs.configs.Subjects.{at}
 use Rattle.engine.proofs.configs.valid.masks_of.Goals as goal
 
-pub loop-s-init : goal.loop-s-init
-loop-s-init c = (search rules, fill_start _ _ _)
-
-pub loop-s-preserved : goal.loop-s-preserved
-loop-s-preserved c = (search rules, rw c.loop-s.invariant.1 (fill_turn _ _ _ _ _ c.loop-s-test.true refl))
-
 pub returns : goal.returns
-returns c = c.loop-s.invariant.1 ∙ fill_end _ _ _ _ c.loop-s.invariant.0 c.loop-s-test.false
+returns c =
+    made_table _ (λ p. p.0.now ≡ c.args.c.now) (λ s. (at c.args.c.now s).mask) (λ p i y q w e. (let m = e.met in (search rules, search rules))) _ _ _ refl c.from_fn.ensures.items

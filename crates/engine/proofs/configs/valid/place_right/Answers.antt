@@ -1,4 +1,4 @@
-use mathlib.Core.Path.{◌≡◌, refl, sym, ◌∙◌}
+use mathlib.Core.Path.{◌≡◌, refl, sym}
 use mathlib.Core.Bool.{Bool, true, false, ◌&&◌, not, cond}
 use Prim.Native.Nat.{ℕ}
 use lib.Dec.{eqb}
@@ -23,13 +23,6 @@ pub returns-then-p-eq0 : goal.returns-then-p-eq0
 unfolding place_right
 returns-then-p-eq0 c =
     let a = c.args in
-    rw (empty a.s 255 a.p c.if-p-eq0.true, empty a.s a.typ a.p c.if-p-eq0.true, c.has-placed.ensures)
+    let p = a.p.now in
+    rw (empty a.s 255 p c.if-p-eq0.true, empty a.s a.typ p c.if-p-eq0.true, c.has-placed.ensures)
     (sym (neither (bit a.mask a.r)))
-
-pub returns-then-placed : goal.returns-then-placed
-unfolding place_right
-returns-then-placed c = rw (sym c.has-placed.ensures ∙ c.if-placed.true, c.both.ensures, c.reservations-own.ensures, c.reservations-all.ensures)
-
-pub returns : goal.returns
-unfolding place_right
-returns c = rw (sym c.has-placed.ensures ∙ c.if-placed.false, c.both-2.ensures, c.reservations-own.ensures, c.reservations-all.ensures)

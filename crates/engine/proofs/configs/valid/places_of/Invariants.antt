@@ -1,4 +1,4 @@
-use Prim.Native.Nat.{ℕ, ◌≤◌, ◌-◌}
+use Prim.Native.Nat.{ℕ}
 use mathlib.Core.Path.{◌≡◌}
 use mathlib.Core.Bool.{Bool, true}
 use mathlib.Core.List.{List}
@@ -14,7 +14,4 @@ abbrev pub placed : ℕ → List ℕ → Config → ℕ → Bool
 placed n types c r = all_below (λ s. place_right s (at c s).mask (get_or types s 0) r (at c r).pool) n
 
 abbrev pub invariant-loop-r : goal.invariant-loop-r
-invariant-loop-r l = (l.most ≤ 16) × (l.r ≤ l.most) × (all_below (placed l.n l.types l.c) l.r ≡ true)
-
-abbrev pub decreases-loop-r : goal.decreases-loop-r
-decreases-loop-r l = l.most - l.r
+invariant-loop-r l = all_below (placed l.n l.types l.c) l.r ≡ true

@@ -1,20 +1,21 @@
-use mathlib.Core.Path.{sym, ◌∙◌}
-use borrow.Author.Tests.{lt-ltb, le-ltb}
-use borrow.Author.Rules.{rules}
-use Rattle.sets.proofs.Below.{all_more, all_stop, all_end, all_by}
+use Rattle.std.proofs.Common.{rules, refl, ◌≡◌, sym, ◌∙◌, length, ℕ, ◌||◌, Bool}
+use borrow.Author.Tests.{tests}
+use lib.Dec.{ltb}
+use Rattle.std.proofs.lemmas.Iterator.{YieldsList-from_slice}
+use Rattle.std.proofs.lemmas.Iterator.Consumers.{YieldsList-from_enumerate}
+use Rattle.std.proofs.lemmas.Iterator.Search.{all_from_yields_List}
+use Rattle.sets.proofs.Arrays.{length_mapped}
+use Rattle.engine.proofs.pools.PoolLaws.{numbered_list}
+use Rattle.engine.specs.configs.Subjects.{no_one}
+use Rattle.engine.specs.configs.Valid.{is_nobody}
+use Rattle.engine.specs.declared.Subject.{Subject}
 use Rattle.engine.proofs.configs.valid.rest_nobody.Goals as goal
 
-pub loop-s-init : goal.loop-s-init
-loop-s-init c = (search rules, c.requires, all_by _ _ (λ k l. rw (lt-ltb k c.args.n l)))
-
-pub returns-then-not-is_nobody : goal.returns-then-not-is_nobody
-returns-then-not-is_nobody c =
-    sym (all_stop _ _ _ c.loop-s-test.true (rw (le-ltb _ _ c.loop-s.invariant.0) (sym c.is_nobody.ensures ∙ c.if-not-is_nobody.true)))
-
-pub loop-s-preserved : goal.loop-s-preserved
-loop-s-preserved c =
-    let inv = c.loop-s.invariant in
-    (search rules, search rules, all_more _ _ inv.2 (rw (le-ltb _ _ inv.0) (sym c.is_nobody.ensures ∙ c.if-not-is_nobody.false)))
-
 pub returns : goal.returns
-returns c = let inv = c.loop-s.invariant in sym (all_end _ _ _ inv.1 c.loop-s-test.false inv.2)
+returns c =
+    let xs = c.args.c.now.subjects in
+    let n : length xs ≡ 16 = search length_mapped in
+    let right : ℕ → Subject → Bool = λ s x. ltb s c.args.n || is_nobody x in
+    all_from_yields_List (λ t. right t.0 t.1) _ _ c.all.result c.all.ensures.ran (YieldsList-from_enumerate (YieldsList-from_slice xs cc) cc) (λ x b q k. search (rules, tests))
+    ∙ sym (numbered_list right xs no_one)
+    ∙ rw n refl

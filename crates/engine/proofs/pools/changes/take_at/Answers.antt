@@ -1,30 +1,27 @@
-use mathlib.Core.Path.{◌≡◌}
+use mathlib.Core.Path.{◌≡◌, ap, ◌∙◌}
+use mathlib.Core.List.{List}
 use native.Mathlib.Omega.{arith}
-use lib.ListN.{length, get_or-eq_default}
+use lib.ListN.{get_or}
+use Rattle.std.specs.Prelude.{Option, unwrap_or}
+use Rattle.engine.specs.declared.Entry.{Entry}
 use Rattle.engine.specs.pools.Entries.{blank_entry}
-use Rattle.engine.specs.pools.Pools.{held, taken_at}
-use Rattle.sets.proofs.Arrays.{length_mapped}
-use Rattle.engine.proofs.pools.PoolLaws.{held_fits, held_at}
+use Rattle.engine.specs.pools.Pools.{held, pooled, taken_at}
+use Rattle.engine.specs.pools.Sizes.{most_entries}
+use Rattle.std.proofs.Common.{rules, tests, cond, eqb}
+use Rattle.std.specs.Prelude.{Some, None}
+use Rattle.engine.proofs.pools.PoolLaws.{unwrapped, given_others}
 use Rattle.engine.proofs.pools.changes.take_at.Goals as goal
-
-pub offset_bounds-p-i : goal.offset_bounds-p-i
-offset_bounds-p-i c =
-    let p = c.args.p in
-    let k : length p.entries ≡ 16 = search length_mapped in
-    omega (arith, held_fits p, c.used.ensures)
-
-pub bounds-p-i : goal.bounds-p-i
-bounds-p-i c =
-    let p = c.args.p in
-    let k : length p.entries ≡ 16 = search length_mapped in
-    omega (arith, held_fits p, c.used.ensures)
-
-pub returns-then-i-used : goal.returns-then-i-used
-unfolding taken_at
-returns-then-i-used c =
-    rw (c.without-rest.ensures, held_at c.args.p c.args.i (omega (arith, c.used.ensures, c.if-i-used.true)))
 
 pub returns : goal.returns
 unfolding taken_at
 returns c =
-    rw (c.without-rest.ensures, get_or-eq_default (held c.args.p) blank_entry {n = c.args.i} (omega (arith, c.used.ensures, c.if-i-used.false)))
+    let i = c.args.i in
+    let content : c.unwrap_or_default.result ≡ get_or (held c.args.p) i blank_entry =
+    unwrapped _ _ c.unwrap_or_default.ensures
+    ∙ ap (λ (o : Option Entry). unwrap_or o blank_entry) c.copied.ensures
+    ∙ c.get.ensures.lookup.4 (omega arith) blank_entry
+    ∙ ap (λ (es : List Entry). get_or es i blank_entry) c.held.ensures.entries in
+    let others =
+    c.rebuilt.ensures (λ t. cond (eqb t.0 i) None (Some t.1)) (λ j e r k. search (rules, tests))
+    ∙ ap (pooled most_entries) (given_others i (held c.args.p)) in
+    rw (content, others)

@@ -1,29 +1,24 @@
-use mathlib.Core.Path.{sym, ◌∙◌}
-use borrow.Author.Tests.{lt-ltb, le-ltb}
-use borrow.Author.Rules.{rules}
-use Rattle.sets.proofs.Below.{all_start, all_more, all_stop, all_end}
-use Rattle.engine.specs.pools.Rows.{has_room}
+use Rattle.std.proofs.Common.{rules, ◌≡◌, sym, ◌∙◌, length}
+use borrow.Author.Tests.{tests, lt-ltb, le-ltb}
+use Rattle.std.proofs.lemmas.Iterator.{YieldsList-from_slice}
+use Rattle.std.proofs.lemmas.Iterator.Search.{all_from_yields_List}
+use Rattle.sets.proofs.Arrays.{length_mapped}
+use Rattle.engine.specs.pools.Pools.{held}
+use Rattle.engine.specs.pools.Rows.{row_has_room, has_room}
+use Rattle.engine.proofs.pools.PoolLaws.{each_row_list, first_rows}
 use Rattle.engine.proofs.pools.rows.has_room.Goals as goal
 
-pub returns-then-used-ge-MOST_ENTRIES : goal.returns-then-used-ge-MOST_ENTRIES
+pub returns-then-held-lt-MOST_ENTRIES : goal.returns-then-held-lt-MOST_ENTRIES
 unfolding has_room
-returns-then-used-ge-MOST_ENTRIES c = rw (← c.used.ensures, le-ltb _ _ c.if-used-ge-MOST_ENTRIES.true)
+returns-then-held-lt-MOST_ENTRIES c =
+    let a = c.args in
+    let n : length a.owner.row ≡ 8 = search length_mapped in
+    let room = row_has_room a.sender a.typ (held a.p.now) in
+    rw (← c.held.ensures.entries, lt-ltb _ _ c.if-held-lt-MOST_ENTRIES.true)
+    (rw c.held.ensures.entries
+    (all_from_yields_List room _ _ c.all.result c.all.ensures.ran (YieldsList-from_slice (first_rows a.owner) cc) (λ x b q k. search (rules, tests))
+    ∙ sym (each_row_list room a.owner n)))
 
-pub loop-k-init : goal.loop-k-init
-loop-k-init c = (search rules, all_start _)
-
-pub returns-then-not-row_has_room : goal.returns-then-not-row_has_room
+pub returns-else-held-lt-MOST_ENTRIES : goal.returns-else-held-lt-MOST_ENTRIES
 unfolding has_room
-returns-then-not-row_has_room c =
-    rw (← c.used.ensures, lt-ltb _ _ c.if-used-ge-MOST_ENTRIES.false)
-    (sym (all_stop _ _ _ c.loop-k-test.true (sym c.row_has_room.ensures ∙ c.if-not-row_has_room.true)))
-
-pub loop-k-preserved : goal.loop-k-preserved
-loop-k-preserved c =
-    (search rules, all_more _ _ c.loop-k.invariant.1 (sym c.row_has_room.ensures ∙ c.if-not-row_has_room.false))
-
-pub returns : goal.returns
-unfolding has_room
-returns c =
-    rw (← c.used.ensures, lt-ltb _ _ c.if-used-ge-MOST_ENTRIES.false)
-    (sym (all_end _ _ _ c.loop-k.invariant.0 c.loop-k-test.false c.loop-k.invariant.1))
+returns-else-held-lt-MOST_ENTRIES c = rw (← c.held.ensures.entries, le-ltb _ _ c.if-held-lt-MOST_ENTRIES.false)

@@ -1,19 +1,18 @@
-use mathlib.Core.Path.{sym, ◌∙◌}
-use borrow.Author.Rules.{rules}
-use Rattle.sets.proofs.Below.{all_start, all_more, all_stop, all_end}
-use Rattle.engine.specs.pools.Rows.{rows_kept}
+use Rattle.std.proofs.Common.{rules, ◌≡◌, sym, ◌∙◌, length}
+use borrow.Author.Tests.{tests}
+use Rattle.std.proofs.lemmas.Iterator.{YieldsList-from_slice}
+use Rattle.std.proofs.lemmas.Iterator.Search.{all_from_yields_List}
+use Rattle.sets.proofs.Arrays.{length_mapped}
+use Rattle.engine.specs.pools.Pools.{held}
+use Rattle.engine.specs.pools.Rows.{row_kept, rows_kept}
+use Rattle.engine.proofs.pools.PoolLaws.{each_row_list, first_rows}
 use Rattle.engine.proofs.pools.rows.rows_kept.Goals as goal
-
-pub loop-k-init : goal.loop-k-init
-loop-k-init c = (search rules, all_start _)
-
-pub returns-then-not-row_kept : goal.returns-then-not-row_kept
-unfolding rows_kept
-returns-then-not-row_kept c = sym (all_stop _ _ _ c.loop-k-test.true (sym c.row_kept.ensures ∙ c.if-not-row_kept.true))
-
-pub loop-k-preserved : goal.loop-k-preserved
-loop-k-preserved c = (search rules, all_more _ _ c.loop-k.invariant.1 (sym c.row_kept.ensures ∙ c.if-not-row_kept.false))
 
 pub returns : goal.returns
 unfolding rows_kept
-returns c = sym (all_end _ _ _ c.loop-k.invariant.0 c.loop-k-test.false c.loop-k.invariant.1)
+returns c =
+    let a = c.args in
+    let n : length a.owner.row ≡ 8 = search length_mapped in
+    let kept = row_kept (held a.p.now) in
+    all_from_yields_List kept _ _ c.all.result c.all.ensures.ran (YieldsList-from_slice (first_rows a.owner) cc) (λ x b q k. search (rules, tests))
+    ∙ sym (each_row_list kept a.owner n)

@@ -1,9 +1,14 @@
-use mathlib.Core.Path.{sym, ◌∙◌}
-use Rattle.engine.proofs.pools.EntryLaws.{message_found, message_none}
+use Rattle.std.proofs.Common.{rules, sym, ◌∙◌}
+use borrow.Author.Tests.{tests}
+use Rattle.std.proofs.lemmas.Iterator.{YieldsList-from_slice}
+use Rattle.std.proofs.lemmas.Iterator.Search.{any_from_yields_List}
+use Rattle.sets.proofs.Chains.{some_of_list}
+use Rattle.engine.specs.pools.Pools.{held, has_message}
+use Rattle.engine.specs.declared.Entry.{Entry}
 use Rattle.engine.proofs.pools.searches.has_message.Goals as goal
 
-pub returns-in-At : goal.returns-in-At
-returns-in-At c = sym (message_found _ _ (sym c.first_message-found.ensures ∙ c.in-At.is))
-
-pub returns-in-Nothing : goal.returns-in-Nothing
-returns-in-Nothing c = sym (message_none _ (sym c.first_message-found.ensures ∙ c.in-Nothing.is))
+pub returns : goal.returns
+unfolding has_message
+returns c =
+    any_from_yields_List (λ (e : Entry). e.message) _ _ c.any.result c.any.ensures.ran (YieldsList-from_slice (held c.args.p.now) cc) (λ x b q k. search (rules, tests))
+    ∙ sym (some_of_list _ _)

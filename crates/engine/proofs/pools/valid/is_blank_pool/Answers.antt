@@ -1,28 +1,23 @@
-use mathlib.Core.Path.{sym, ◌∙◌}
-use borrow.Author.Tests.{eq-eqb, ne_eqb}
-use borrow.Author.Rules.{rules}
-use Rattle.sets.proofs.Tests.{and_true}
-use Rattle.sets.proofs.Below.{all_start, all_more, all_stop, all_end}
+use Rattle.std.proofs.Common.{rules, refl, ◌≡◌, sym, ◌∙◌, length}
+use borrow.Author.Tests.{tests, eq-eqb, ne_eqb}
+use Rattle.std.proofs.lemmas.Iterator.{YieldsList-from_slice}
+use Rattle.std.proofs.lemmas.Iterator.Search.{all_from_yields_List}
+use Rattle.sets.proofs.Arrays.{length_mapped}
+use Rattle.sets.proofs.Chains.{all_below_list}
+use Rattle.engine.specs.pools.Entries.{blank_entry, is_blank_entry}
 use Rattle.engine.specs.pools.Valid.{is_blank_pool}
 use Rattle.engine.proofs.pools.valid.is_blank_pool.Goals as goal
 
-pub returns-then-p-ne0 : goal.returns-then-p-ne0
+pub returns-then-p-eq0 : goal.returns-then-p-eq0
 unfolding is_blank_pool
-returns-then-p-ne0 c = rw (ne_eqb _ _ c.if-p-ne0.true)
+returns-then-p-eq0 c =
+    let es = c.args.p.now.entries in
+    let n : length es ≡ 16 = search length_mapped in
+    rw (eq-eqb _ _ c.if-p-eq0.true)
+    (all_from_yields_List is_blank_entry _ _ c.all.result c.all.ensures.ran (YieldsList-from_slice es cc) (λ x b q k. search (rules, tests))
+    ∙ sym (all_below_list is_blank_entry es blank_entry)
+    ∙ rw n refl)
 
-pub loop-i-init : goal.loop-i-init
-loop-i-init c = (search rules, all_start _)
-
-pub returns-then-not-is_blank_entry : goal.returns-then-not-is_blank_entry
+pub returns-else-p-eq0 : goal.returns-else-p-eq0
 unfolding is_blank_pool
-returns-then-not-is_blank_entry c =
-    rw (eq-eqb _ _ c.if-p-ne0.false)
-    (sym (all_stop _ _ _ c.loop-i-test.true (sym c.is_blank_entry.ensures ∙ c.if-not-is_blank_entry.true)))
-
-pub loop-i-preserved : goal.loop-i-preserved
-loop-i-preserved c = (search rules, all_more _ _ c.loop-i.invariant.1 (sym c.is_blank_entry.ensures ∙ c.if-not-is_blank_entry.false))
-
-pub returns : goal.returns
-unfolding is_blank_pool
-returns c =
-    sym (and_true (eq-eqb _ _ c.if-p-ne0.false) (all_end _ _ _ c.loop-i.invariant.0 c.loop-i-test.false c.loop-i.invariant.1))
+returns-else-p-eq0 c = rw (ne_eqb _ _ c.if-p-eq0.false)

@@ -1,19 +1,22 @@
-use mathlib.Core.Path.{sym, ◌∙◌}
-use borrow.Author.Rules.{rules}
-use Rattle.sets.proofs.Below.{all_start, all_more, all_stop, all_end}
-use Rattle.engine.specs.pools.Valid.{place_valid}
+use Rattle.std.proofs.Common.{rules, refl, ◌≡◌, sym, ◌∙◌, length, ℕ, cond}
+use borrow.Author.Tests.{tests}
+use lib.Dec.{ltb}
+use Rattle.std.proofs.lemmas.Iterator.{YieldsList-from_slice}
+use Rattle.std.proofs.lemmas.Iterator.Consumers.{YieldsList-from_enumerate}
+use Rattle.std.proofs.lemmas.Iterator.Search.{all_from_yields_List}
+use Rattle.sets.proofs.Arrays.{length_mapped}
+use Rattle.engine.specs.declared.Entry.{Entry}
+use Rattle.engine.specs.pools.Entries.{blank_entry, is_blank_entry}
+use Rattle.engine.specs.pools.Valid.{entry_valid, place_valid}
+use Rattle.engine.proofs.pools.PoolLaws.{numbered_list}
 use Rattle.engine.proofs.pools.valid.places_valid.Goals as goal
 
-pub loop-i-init : goal.loop-i-init
-loop-i-init c = (search rules, all_start _)
-
-pub returns-then-not-place_valid : goal.returns-then-not-place_valid
-unfolding place_valid
-returns-then-not-place_valid c = sym (all_stop _ _ _ c.loop-i-test.true (sym c.place_valid.ensures ∙ c.if-not-place_valid.true))
-
-pub loop-i-preserved : goal.loop-i-preserved
-unfolding place_valid
-loop-i-preserved c = (search rules, all_more _ _ c.loop-i.invariant.1 (sym c.place_valid.ensures ∙ c.if-not-place_valid.false))
-
 pub returns : goal.returns
-returns c = sym (all_end _ _ _ c.loop-i.invariant.0 c.loop-i-test.false c.loop-i.invariant.1)
+unfolding place_valid
+returns c =
+    let p = c.args.p.now in
+    let n : length p.entries ≡ 16 = search length_mapped in
+    let right : ℕ → Entry → _ = λ i e. cond (ltb i p.count) (entry_valid c.args.n e) (is_blank_entry e) in
+    all_from_yields_List (λ t. right t.0 t.1) _ _ c.all.result c.all.ensures.ran (YieldsList-from_enumerate (YieldsList-from_slice p.entries cc) cc) (λ x b q k. search (rules, tests))
+    ∙ sym (numbered_list right p.entries blank_entry)
+    ∙ rw n refl

@@ -1,7 +1,0 @@
-use mathlib.Core.Path.{refl}
-use Rattle.model.specs.Records.{with_exits}
-use Rattle.model.proofs.records.with_exits.Goals as goal
-
-pub returns : goal.returns
-unfolding with_exits
-returns c = refl

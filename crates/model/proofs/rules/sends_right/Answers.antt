@@ -1,4 +1,0 @@
-use Rattle.model.proofs.rules.sends_right.Goals as goal
-
-pub returns : goal.returns
-returns c = rw (c.both.ensures, c.none_from.ensures)

@@ -1,9 +1,0 @@
--- Every turn writes one of the 16 entries.
-use Rattle.std.proofs.Common.{◌-◌, ◌≤◌}
-use Rattle.step_cases.proofs.write_pool.Given as goal
-
-abbrev pub invariant-loop-i : goal.invariant-loop-i
-invariant-loop-i g l = l.i ≤ 16
-
-abbrev pub decreases-loop-i : goal.decreases-loop-i
-decreases-loop-i g l = 16 - l.i

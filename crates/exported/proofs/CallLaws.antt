@@ -221,25 +221,34 @@ short_stays file config h l = (fresh_short file config h l).1
 
 -- ---- 8, 9 and 10
 
-module _ (file : List ℕ) (code right : Bool) where
+module _ (refused code right : Bool) where
   -- the refusals that are judged first, by what the loader says
-  abbrev first_rules : List (Bool × ℕ)
-  first_rules = (not (valid (model_in file)), 8) ∷ (not code, 9) ∷ (not right, 10) ∷ []
+  abbrev pub first_rules : List (Bool × ℕ)
+  first_rules = (refused, 8) ∷ (not code, 9) ∷ (not right, 10) ∷ []
 
-  pub ready_8 : is_err (loaded file).verdict ≡ true → (8 ≡ first_number first_rules) × ◌≢◌ {A = ℕ} 8 0
-  ready_8 h = (sym (number_here _ 8 _ (sym (err_is file) ∙ h)), λ z. absurd (omega (arith, z)))
+  pub ready_8 : refused ≡ true → (8 ≡ first_number first_rules) × ◌≢◌ {A = ℕ} 8 0
+  ready_8 h = (sym (number_here _ 8 _ h), λ z. absurd (omega (arith, z)))
 
-  pub ready_9 : is_err (loaded file).verdict ≡ false → code ≡ false → (9 ≡ first_number first_rules) × ◌≢◌ {A = ℕ} 9 0
-  ready_9 h k = (sym (number_after _ 8 _ (sym (err_is file) ∙ h) ∙ number_here _ 9 _ (ap not k)), λ z. absurd (omega (arith, z)))
+  pub ready_9 : refused ≡ false → code ≡ false → (9 ≡ first_number first_rules) × ◌≢◌ {A = ℕ} 9 0
+  ready_9 h k = (sym (number_after _ 8 _ h ∙ number_here _ 9 _ (ap not k)), λ z. absurd (omega (arith, z)))
 
-  pub ready_10 : is_err (loaded file).verdict ≡ false → code ≡ true → right ≡ false → (10 ≡ first_number first_rules) × ◌≢◌ {A = ℕ} 10 0
+  pub ready_10 : refused ≡ false → code ≡ true → right ≡ false → (10 ≡ first_number first_rules) × ◌≢◌ {A = ℕ} 10 0
   ready_10 h k r = (
-    sym (number_after _ 8 _ (sym (err_is file) ∙ h) ∙ number_after _ 9 _ (ap not k) ∙ number_here _ 10 [] (ap not r)),
+    sym (number_after _ 8 _ h ∙ number_after _ 9 _ (ap not k) ∙ number_here _ 10 [] (ap not r)),
     λ z. absurd (omega (arith, z)),
   )
 
-  pub ready_none : is_err (loaded file).verdict ≡ false → code ≡ true → right ≡ true → first_number first_rules ≡ 0
-  ready_none h k r = number_after _ 8 _ (sym (err_is file) ∙ h) ∙ number_after _ 9 _ (ap not k) ∙ number_after _ 10 [] (ap not r) ∙ number_none
+  pub ready_none : refused ≡ false → code ≡ true → right ≡ true → first_number first_rules ≡ 0
+  ready_none h k r = number_after _ 8 _ h ∙ number_after _ 9 _ (ap not k) ∙ number_after _ 10 [] (ap not r) ∙ number_none
+
+-- the same refusals, by what is valid
+pub ready_rules : (file : List ℕ) (l : Loaded) (code right : Bool) → l ≡ loaded file
+    → first_number (first_rules (is_err l.verdict) code right) ≡ first_number (first_rules (not (valid (model_in file))) code right)
+ready_rules file l code right e = ap (λ (x : Bool). first_number (first_rules x code right)) (ap (λ (x : Loaded). is_err x.verdict) e ∙ err_is file)
+
+-- the model of a file that was loaded
+pub model_read : (file : List ℕ) (l : Loaded) → l ≡ loaded file → l.model ≡ model_in file
+model_read file l e = ap (λ (x : Loaded). x.model) e
 
 -- a configuration's bytes are long enough
 pub config_room : (config : List ℕ) → is_config config ≡ true → config_size ≤ length config

@@ -2,7 +2,7 @@
 // Nothing is assumed of the bytes. A call that is refused changes no byte of any buffer. Refusals are numbers here, as C takes them.
 #![tactic(auto)]
 
-ghost use Rattle.std.specs.Prelude.{◌≡◌, ◌≢◌, not, [], ◌∷◌, eqb, IfOk, IfErr};
+ghost use Rattle.std.specs.Prelude.{◌≡◌, ◌≢◌, not, [], ◌∷◌, eqb, is_err, IfOk, IfErr};
 ghost use Rattle.model.specs.Valid.{valid};
 ghost use Rattle.engine.specs.pools.Sizes.{most_entries};
 ghost use Rattle.engine.specs.configs.Shares.{share_of};
@@ -17,7 +17,7 @@ mod model_bytes;
 mod model_from;
 
 use engine::{Config, NotAsked};
-use model::{Model, Unwritten};
+use model::{Loaded, Model, Unwritten};
 
 // Loads a file: the refusal and 256 times the block. The model goes to the buffer.
 #[unsafe(no_mangle)]
@@ -73,13 +73,12 @@ pub extern "C" fn zs_fresh(file: &[u8], config: &mut [u8]) -> u8
     0
 }
 
-// The model of a file and a configuration from its bytes. Or the number of C's interface: 8 where the model is not valid, 9
-// where the command has no such code, 10 where the bytes are no configuration.
-fn ready(file: &[u8], code: bool, config: &[u8]) -> Result<(Model, Config), u8>
-    ensures ok { IfOk result (λ p. (first_number ((not (valid (model_in file.now)), 8) ∷ (not code, 9) ∷ (not (is_config config.now), 10) ∷ []) ≡ 0) × (p.0 ≡ model_in file.now) × (p.1 ≡ config_from config.now)) }
-    ensures err { IfErr result (λ n. (n ≡ first_number ((not (valid (model_in file.now)), 8) ∷ (not code, 9) ∷ (not (is_config config.now), 10) ∷ [])) × (n ≢ 0)) }
+// A call goes on with the model that was loaded and the configuration in some bytes. Or the number of C's interface: 8 where the file
+// was refused, 9 where the command has no such code, 10 where the bytes are no configuration.
+fn ready(loaded: &Loaded, code: bool, config: &[u8]) -> Result<(), u8>
+    ensures ok { IfOk result (λ done. first_number ((is_err loaded.now.verdict, 8) ∷ (not code, 9) ∷ (not (is_config config.now), 10) ∷ []) ≡ 0) }
+    ensures err { IfErr result (λ n. (n ≡ first_number ((is_err loaded.now.verdict, 8) ∷ (not code, 9) ∷ (not (is_config config.now), 10) ∷ [])) × (n ≢ 0)) }
 {
-    let loaded = model::load(file);
     if loaded.verdict.is_err() {
         return Err(8);
     }
@@ -89,7 +88,7 @@ fn ready(file: &[u8], code: bool, config: &[u8]) -> Result<(Model, Config), u8>
     if !config_bytes::is_config(config) {
         return Err(10);
     }
-    Ok((loaded.model, config_bytes::config_from(config)))
+    Ok(())
 }
 
 // 10 where the step says so; 6 where there is no room for the values; else what the step says.
@@ -113,11 +112,12 @@ pub extern "C" fn zs_step(file: &[u8], config: &mut [u8], command: &[u8], values
     ensures values { values.new ≡ step_values file.now config.old command.now values.old }
 {
     let code = sets::is_within(1, sets::byte(command, 0), 8);
-    let (m, c) = match ready(file, code, config) {
-        Ok(pair) => pair,
-        Err(number) => return number,
-    };
-    let done = engine::step_coded(m, c, bytes::eight_of(command));
+    let loaded = model::load(file);
+    if let Err(number) = ready(&loaded, code, config) {
+        return number;
+    }
+    let c = config_bytes::config_from(config);
+    let done = engine::step_coded(loaded.model, c, bytes::eight_of(command));
     let number = last_refusal(engine::refusal(done.answer), values.len() < 9);
     if number != 0 {
         return number;
@@ -134,11 +134,12 @@ pub extern "C" fn zs_run(file: &[u8], config: &mut [u8], tape: &[u8], lines: &mu
     ensures config { config.new ≡ run_room file.now config.old tape.now lines.old }
     ensures lines { lines.new ≡ run_lines file.now config.old tape.now lines.old }
 {
-    let (m, c) = match ready(file, true, config) {
-        Ok(pair) => pair,
-        Err(number) => return number,
-    };
-    let done = engine::run(m, c, tape, lines);
+    let loaded = model::load(file);
+    if let Err(number) = ready(&loaded, true, config) {
+        return number;
+    }
+    let c = config_bytes::config_from(config);
+    let done = engine::run(loaded.model, c, tape, lines);
     let number = engine::refusal(done.answer);
     if number != 0 {
         return number;
@@ -164,14 +165,15 @@ pub extern "C" fn zs_walk(file: &[u8], config: &mut [u8], tape: &[u8]) -> u8
     ensures result { result ≡ first_number (walk_refusals file.now config.old) }
     ensures config { config.new ≡ walk_room file.now config.old tape.now }
 {
-    let (m, c) = match ready(file, true, config) {
-        Ok(pair) => pair,
-        Err(number) => return number,
-    };
-    if !engine::is_valid(m, c) {
+    let loaded = model::load(file);
+    if let Err(number) = ready(&loaded, true, config) {
+        return number;
+    }
+    let c = config_bytes::config_from(config);
+    if !engine::is_valid(loaded.model, c) {
         return 10;
     }
-    config_bytes::put_config(&walk(m, c, tape), config);
+    config_bytes::put_config(&walk(loaded.model, c, tape), config);
     0
 }
 

@@ -170,7 +170,8 @@ fn record_right(file: &[u8], b: usize, i: usize, kinds: &[u8]) -> bool
     earlier < here && fields_right(file, k, r, kinds)
 }
 
-// The first block with a record that is wrong.
+// The first block with a record that is wrong. Not inlined: the table of kinds lies on the stack only while this runs.
+#[inline(never)]
 pub(crate) fn first_bad_record(file: &[u8]) -> Option<usize>
     ensures { result ≡ first_not (records_right file.now) (blocks file.now) }
 {

@@ -32,7 +32,8 @@ fn not_loaded(why: Fault) -> Loaded
     }
 }
 
-// The model of the records, where no rule across records is broken.
+// The model of the records, where no rule across records is broken. Not inlined: its models do not lie beside the table of kinds.
+#[inline(never)]
 fn across_or(file: &[u8]) -> Loaded
     ensures { result ≡ across_or file.now }
 {

@@ -1,7 +1,8 @@
 // What is right of a file's length, of a block and of a record: refusals 1 to 4; 2 is a block's own.
-ghost use Rattle.std.specs.Prelude.{◌≡◌, ◌-◌, ◌<◌};
+ghost use Rattle.std.specs.Prelude.{◌≡◌, ◌-◌, ◌<◌, replicate};
 ghost use Rattle.sets.specs.Below.{first_not};
 ghost use Rattle.blocks.specs.Blocks.{blocks, block_of, check_right, kind_of};
+ghost use Rattle.model.specs.Sizes.{keys};
 ghost use Rattle.model.specs.Stages.{length_right, kind_right, full_right, block_right, record_before, Kinds, header_right, exit_right, limit_right, fields_right, record_right, records_right};
 
 use super::kinds::Records;
@@ -97,17 +98,16 @@ fn record_before<'a>(file: &'a [u8], b: usize, i: usize) -> &'a [u8]
     &file[..0]
 }
 
-// The kind of every state that has a record, at its key; 0 elsewhere.
-fn kinds(file: &[u8]) -> [u8; KEYS]
-    ensures { Kinds file.now result }
+// The kind of every state that has a record goes to its key in a table of zeros.
+fn put_kinds(file: &[u8], kinds: &mut [u8; KEYS])
+    requires { kinds.old ≡ replicate keys 0 }
+    ensures { Kinds file.now kinds.new }
 {
     let states: Records<'_, 2> = Records::of(file);
-    let mut kinds = [0; KEYS];
     for j in 0..states.count {
         let r = states.get(j);
         kinds[records::state_key(r) as usize] = byte(r, 2);
     }
-    kinds
 }
 
 // Header record i, of as many as are used.
@@ -170,11 +170,13 @@ fn record_right(file: &[u8], b: usize, i: usize, kinds: &[u8]) -> bool
     earlier < here && fields_right(file, k, r, kinds)
 }
 
-// The first block with a record that is wrong.
+// The first block with a record that is wrong. Not inlined: the table of kinds lies on the stack only while this runs.
+#[inline(never)]
 pub(crate) fn first_bad_record(file: &[u8]) -> Option<usize>
     ensures { result ≡ first_not (records_right file.now) (blocks file.now) }
 {
-    let kinds = kinds(file);
+    let mut kinds = [0; KEYS];
+    put_kinds(file, &mut kinds);
     let n = file.len() / BLOCK_BYTES;
     let mut found = None;
     'search: for b in 0..n {

@@ -1,9 +1,9 @@
 use Rattle.std.proofs.Common.{refl, rules}
 use Rattle.model.proofs.StageLaws.{kinds_start, kinds_turn, kinds_end}
-use Rattle.model.proofs.stages.kinds.Goals as goal
+use Rattle.model.proofs.stages.put_kinds.Goals as goal
 
 pub loop-j-init : goal.loop-j-init
-loop-j-init c = kinds_start _
+loop-j-init c = rw c.requires (kinds_start _)
 
 pub loop-j-preserved : goal.loop-j-preserved
 loop-j-preserved c =

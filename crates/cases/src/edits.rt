@@ -2,7 +2,7 @@
 // with a stored file and loaded again; what is not is refused, whatever the buffer.
 ghost use Rattle.std.specs.Prelude.{◌<◌};
 
-use super::{ROOM, back};
+use super::{ROOM, back, files};
 use model::{Loaded, Model};
 use std::rt::Files;
 

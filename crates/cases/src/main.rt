@@ -7,6 +7,7 @@
 
 mod back;
 mod edits;
+mod files;
 
 use model::{Loaded, Verdict};
 use std::rt::Files;

@@ -9,6 +9,7 @@ ghost use Rattle.std.specs.Prelude.{◌≡◌, true, ◌+◌, ◌≤◌, length,
 ghost use Rattle.blocks.specs.Verdicts.{no_fault};
 ghost use Rattle.model.specs.Valid.{valid};
 
+mod files;
 mod pieces;
 mod printed;
 mod text;

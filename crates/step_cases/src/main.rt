@@ -15,6 +15,7 @@
 
 ghost use Rattle.std.specs.Prelude.{◌≤◌, length};
 
+mod files;
 mod given;
 mod shown;
 

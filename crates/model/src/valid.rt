@@ -1,5 +1,5 @@
 // Whether a model is valid: every rule kept, all other room zero.
-ghost use Rattle.std.specs.Prelude.{◌≡◌, ◌<◌, ◌&&◌, eqb, leb};
+ghost use Rattle.std.specs.Prelude.{◌≡◌, ◌<◌, ◌&&◌, eqb, leb, drop};
 ghost use Rattle.sets.specs.Below.{all_below};
 ghost use Rattle.sets.specs.Tests.{within};
 ghost use Rattle.model.specs.Sizes.{most_subjects, most_exits, most_exits_in_all, most_rows};
@@ -137,16 +137,31 @@ fn bits(st: Stored) -> u64
     all | (st.receivers as u64 + 65536 * (st.first as u64))
 }
 
-// Nothing but zeros from place k on: no branch until the end.
-fn none_after(k: usize, exits: &[Exit]) -> bool
-    ensures { result ≡ none_after k exits.now }
+// Nothing but zeros: no branch until the end.
+fn exits_blank(exits: &[Exit]) -> bool
+    ensures { result ≡ none_after 0 exits.now }
 {
     let mut seen: u8 = 0;
-    for j in k..exits.len() {
-        let e = exits[j];
+    for e in exits {
         seen |= e.target | e.sender | e.typ;
     }
     seen == 0
+}
+
+// The exits from place k on: nothing past the end.
+fn exits_behind(k: usize, exits: &[Exit]) -> &[Exit]
+    ensures { result.now ≡ drop k exits.now }
+{
+    exits.get(k..).unwrap_or(&[])
+}
+
+// Nothing but zeros from place k on, by sixteen exits: the compiler reads their 48 bytes at once. Exit by exit it gathers
+// single bytes, and is_valid took twice the time for a small model.
+fn none_after(k: usize, exits: &[Exit]) -> bool
+    ensures { result ≡ none_after k exits.now }
+{
+    let (sixteens, others) = exits_behind(k, exits).as_chunks::<16>();
+    sixteens.iter().all(|x| exits_blank(x)) && exits_blank(others)
 }
 
 // So many exits have room, and after them there is nothing.

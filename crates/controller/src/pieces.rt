@@ -8,6 +8,7 @@ use super::{Serving, printed};
 use model::Model;
 
 // Moves the bytes from one place up to another to the front, and answers how many there are.
+#[tactic(auto, using(crate::proofs::PiecesLaws::moved_bytes))]
 fn keep_rest(room: &mut [u8], from: usize, to: usize) -> usize
     requires from_le_to { from ≤ to }
     requires to_in_bounds { to ≤ length room.old }

@@ -18,7 +18,7 @@ subject_held : (x : Subject) (vs : List Val) → Is (row subject.the_type) x vs 
 subject_held x vs p =
     let fields = p.1.1 in
     let closed = fields.0 in
-    let mask = fields.1.1.1.1.1.0 in
+    let mask = fields.1.1.1.1.0 in
     let pool = fields.1.1.1.1.1.1.0 in
     record {
       marks = closed.1.0.1;

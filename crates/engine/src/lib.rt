@@ -43,15 +43,16 @@ pub(crate) struct Taken {
 }
 
 // A subject at work. Mode 0 is asleep, 1 running, 2 ended properly, 3 ended improperly; closed has for each sender a mask of types.
-// The mode is a number, since any may be handed in and `is_valid` answers for each.
+// The mode is a number, since any may be handed in and `is_valid` answers for each. The word stands right before the pool: bytes that
+// fill up a number there would be copied with the entries, and more than 128 bytes in one piece are copied by a call.
 #[derive(Clone, Copy, Default, PartialEq, Eq)]
 pub struct Subject {
     pub closed: [u32; MOST_SUBJECTS],
     pub mode: u8,
     pub state: u8,
     pub waited: u16,
-    pub word: u32,
     pub mask: u16,
+    pub word: u32,
     pub pool: Pool,
 }
 

@@ -37,8 +37,8 @@ IsNobody x =
     × ((x.mode ≡ 0)
     × ((x.state ≡ 0)
     × ((x.waited ≡ 0)
-    × ((x.word ≡ 0)
     × ((x.mask ≡ 0)
+    × ((x.word ≡ 0)
     × (AllOfLen IsBlank x.pool.entries 16 × (x.pool.count ≡ 0)))))))
 
 pub default_nobody : {x : Subject} → IsNobody x → x ≡ nobody
@@ -46,7 +46,7 @@ unfolding nobody
 default_nobody {x} h =
     let closed = replicated 0 (λ k e. e) x.closed 16 h.0 in
     let pool = empty_pool most_entries h.1.1.1.1.1.1 in
-    λ i. record { closed = closed i; mode = h.1.0 i; state = h.1.1.0 i; waited = h.1.1.1.0 i; word = h.1.1.1.1.0 i; mask = h.1.1.1.1.1.0 i; pool = pool i }
+    λ i. record { closed = closed i; mode = h.1.0 i; state = h.1.1.0 i; waited = h.1.1.1.0 i; mask = h.1.1.1.1.0 i; word = h.1.1.1.1.1.0 i; pool = pool i }
 
 pub default_config : {c : Config} → AllOfLen IsNobody c.subjects 16 → c ≡ zero_config
 unfolding zero_config

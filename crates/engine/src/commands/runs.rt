@@ -72,12 +72,14 @@ fn mark(n: u8, here: State, x: Subject) -> Subject
     }
 }
 
-// Ask-empty leaves by exit 1 if an entry of the own pool matches, else, as close and open do, by exit 0.
+// Ask-empty leaves by exit 1 if an entry of the own pool matches, else, as close and open do, by exit 0. A copy of the pool is searched,
+// as in `enter`.
 #[tactic(auto, unfolding(crate::specs::commands::Runs::run_exit))]
 pub(crate) fn run_exit(here: State, x: Subject) -> u8
     ensures { result ≡ run_exit here x }
 {
-    let found = searches::count(&x.pool, here.sender, here.typ) != 0;
+    let pool = x.pool;
+    let found = searches::count(&pool, here.sender, here.typ) != 0;
     if here.kind == 6 && found { 1 } else { 0 }
 }
 

@@ -11,12 +11,13 @@ use crate::pools::{changes, searches};
 use crate::{Rule, Subject, Taken};
 use model::State;
 
-// The message that the exit wants.
+// The message that the exit wants. A copy of the pool is searched, as in `enter`.
 fn wanted_at(here: State, exit: u8, x: Subject) -> Option<usize>
     ensures { result ≡ wanted_at here exit x }
 {
     let e = rules::exit_at(here, exit);
-    searches::first_message(&x.pool, e.sender, e.typ)
+    let pool = x.pool;
+    searches::first_message(&pool, e.sender, e.typ)
 }
 
 // What refuses it.

@@ -19,18 +19,20 @@ pub(crate) fn append(mut p: Pool, e: Entry) -> Pool
 }
 
 // The pool of what f gives of each place and its entry, in order. An entry of which it gives nothing leaves; those behind it move up.
+// It is made at the end: entries and count by themselves are smaller pieces to copy.
 fn rebuilt<F: Fn(usize, Entry) -> Option<Entry>>(p: &Pool, f: F) -> Pool
     requires { F.IsAlwaysCallable f }
     ensures { (g : ℕ × Entry → Option Entry) → ((i : ℕ) (e : Entry) (r : Option Entry) → F.post f i e r → r ≡ g (i, e)) → result ≡ pooled most_entries (filter_map g (enumerate_from 0 (held p.now))) }
 {
-    let mut q = Pool::default();
+    let mut entries = Pool::default().entries;
+    let mut count: u8 = 0;
     for (j, e) in p.held().iter().enumerate() {
         if let Some(x) = f(j, *e) {
-            q.entries[q.count as usize] = x;
-            q.count += 1;
+            entries[count as usize] = x;
+            count += 1;
         }
     }
-    q
+    Pool { entries, count }
 }
 
 // The content at place i, and the pool without it.

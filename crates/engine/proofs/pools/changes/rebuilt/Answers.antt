@@ -5,17 +5,17 @@ use Rattle.engine.specs.declared.Entry.{Entry}
 use Rattle.engine.specs.pools.Sizes.{most_entries}
 use Rattle.engine.specs.pools.Entries.{blank_entry}
 use Rattle.engine.specs.pools.Pools.{held, pooled}
-use Rattle.engine.proofs.pools.PoolLaws.{empty_pool, store_is, left_turn, given_one}
+use Rattle.engine.proofs.pools.PoolLaws.{pool_is, empty_pool, store_is, left_turn, given_one}
 use Rattle.engine.proofs.pools.changes.rebuilt.Goals as goal
 use Rattle.engine.proofs.pools.changes.rebuilt.Goals.{in-Some, in_default}
 
 pub loop-j-init : goal.loop-j-init
 loop-j-init g c =
-    let e = empty_pool most_entries c.default-q.ensures in
-    (omega (arith, c.default-q.ensures.1), λ gives k. e)
+    let e = empty_pool most_entries {q = record { entries = c.default.result.entries; count = 0 }} (c.default.ensures.0, refl) in
+    (omega arith, λ gives k. e)
 
-pub overflow_add-q : goal.overflow_add-q
-overflow_add-q g c = omega (arith, c.loop-j.invariant.0, c.loop-j-test.true, c.held-e-items.ensures.few)
+pub overflow_add-count : goal.overflow_add-count
+overflow_add-count g c = omega (arith, c.loop-j.invariant.0, c.loop-j-test.true, c.held-e-items.ensures.few)
 
 pub loop-j-preserved : goal.loop-j-preserved
 loop-j-preserved g c =
@@ -28,15 +28,15 @@ loop-j-preserved g c =
     let here = ap (λ (es : List Entry). get_or es j blank_entry) items.entries in
     elim c.match-f.branch [
       | in-Some w ↦ (
-        rw w.q-is (omega (arith, inv.0)),
+        rw w.count-is (omega (arith, inv.0)),
         λ gives k.
-            w.q-is
+            pool_is w.entries-is w.count-is
             ∙ store_is most_entries _ _ (inv.1 gives k) _ _ refl (omega (arith, inv.0, items.few, l))
-            ∙ given_one most_entries gives p c.loop-j.q j inside _ here w.in-Some.x (sym w.in-Some.is ∙ k _ _ _ c.f.ensures) (inv.1 gives k),
+            ∙ given_one most_entries gives p (record { entries = c.loop-j.entries; count = c.loop-j.count }) j inside _ here w.in-Some.x (sym w.in-Some.is ∙ k _ _ _ c.f.ensures) (inv.1 gives k),
       )
       | in_default w ↦ (
-        rw w.q-is (omega (arith, inv.0)),
-        λ gives k. w.q-is ∙ left_turn most_entries gives p c.loop-j.q j inside _ here (sym w.in_default.is ∙ k _ _ _ c.f.ensures) (inv.1 gives k),
+        rw w.count-is (omega (arith, inv.0)),
+        λ gives k. pool_is w.entries-is w.count-is ∙ left_turn most_entries gives p (record { entries = c.loop-j.entries; count = c.loop-j.count }) j inside _ here (sym w.in_default.is ∙ k _ _ _ c.f.ensures) (inv.1 gives k),
       )
     ]
 

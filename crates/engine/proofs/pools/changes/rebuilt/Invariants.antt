@@ -8,5 +8,5 @@ use Rattle.engine.proofs.pools.changes.rebuilt.Given as goal
 
 abbrev pub invariant-loop-j : goal.invariant-loop-j
 invariant-loop-j g l =
-    (l.q.count ≤ l.j)
-    × ((gives : ℕ × Entry → Option Entry) → ((i : ℕ) (e : Entry) (r : Option Entry) → goal.F-post g l.f i e r → r ≡ gives (i, e)) → l.q ≡ pooled most_entries (filter_map gives (enumerate_from 0 (take l.j (held l.p)))))
+    (l.count ≤ l.j)
+    × ((gives : ℕ × Entry → Option Entry) → ((i : ℕ) (e : Entry) (r : Option Entry) → goal.F-post g l.f i e r → r ≡ gives (i, e)) → record { entries = l.entries; count = l.count } ≡ pooled most_entries (filter_map gives (enumerate_from 0 (take l.j (held l.p)))))
